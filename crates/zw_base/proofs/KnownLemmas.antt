@@ -1,0 +1,36 @@
+-- What is known of the bytes that a sink has taken or a source has left, from one call to the next.
+use Rattle.std.proofs.Common.{◌≡◌, ℕ, ◌+◌, ◌<◌, min, List, [], ◌++◌, length, take, drop, Option, Some, None, Bool, ◌&&◌, nat_eq, true, false, subst, ◌-◌, sym, ◌∙◌, ap, append_assoc, arith, refl, length-append}
+use Rattle.std.proofs.Math.Seq.{take-add}
+use Rattle.std.proofs.lemmas.List.{take_at, take_rest, take-append-drop, length-take, length-drop, drop_all, drop-drop}
+use Rattle.std.proofs.lemmas.Bool.Decides.{nat_tests}
+use Rattle.std.specs.Io.KnownBytes.{Appends}
+use Rattle.zw_base.specs.Faults.{Counts}
+
+-- two fronts one after the other are one front
+pub Appends-take : (old mid new : Option (List ℕ)) (bytes : List ℕ) (a n : ℕ) → Appends old mid (take a bytes) → Appends mid new (take n (drop a bytes)) → Appends old new (take (a + n) bytes)
+Appends-take None mid new bytes a n h k = tt
+Appends-take (Some xs) None new bytes a n h k = absurd h
+Appends-take (Some xs) (Some ys) None bytes a n h k = absurd k
+Appends-take (Some xs) (Some ys) (Some zs) bytes a n h k =
+    k ∙ ap (λ v. v ++ take n (drop a bytes)) h ∙ append_assoc xs (take a bytes) (take n (drop a bytes)) ∙ ap (λ v. xs ++ v) (sym (take-add a n bytes))
+
+-- what a slice from a place on stands for, where the slice is of these bytes
+pub slice_rest : (slice bytes : List ℕ) (at : ℕ) → slice ≡ bytes → take (length slice - at) (drop at slice) ≡ drop at bytes
+slice_rest slice bytes at e = take_rest slice at ∙ ap (drop at) e
+
+-- what a read of n bytes put into the buffer stood at the front of what was left
+pub read-content : (bytes from buf new : List ℕ) (at n : ℕ) → from ≡ drop at bytes → n ≡ min (length buf) (length from) → new ≡ take n from ++ drop n buf → drop at bytes ≡ take n new ++ drop (at + n) bytes
+read-content bytes from buf new at n left count copied =
+    let front : take n new ≡ take n from = ap (take n) copied ∙ take_at (take n from) (drop n buf) n (rw length-take (omega arith)) in
+    sym left ∙ sym (ap (λ v. v ++ drop (at + n) bytes) front ∙ ap (λ v. take n from ++ v) (sym (drop-drop n at bytes) ∙ ap (drop n) (sym left)) ∙ take-append-drop n from)
+
+-- a read of no bytes into a buffer that isn't empty comes at the end
+pub read-end : (bytes from buf new : List ℕ) (at n : ℕ) → from ≡ drop at bytes → n ≡ min (length buf) (length from) → new ≡ take n from ++ drop n buf → n ≡ 0 → 0 < length new → drop (at + n) bytes ≡ []
+read-end bytes from buf new at n left count copied none some =
+    drop_all (at + n) bytes (omega (arith, length-drop at bytes, ap length left, ap length copied, length-append (take n from) (drop n buf), length-take n from, length-drop n buf))
+
+-- a put that took something did not fail
+pub put-steady : (before now n : ℕ) (b : Bool) → (n ≡ 0 → ⊥) → Counts before now (nat_eq n 0 && b) → now ≡ before
+put-steady before now n b some h =
+    let differs : nat_eq n 0 ≡ false = grind (arith, nat_tests) in
+    subst (λ (t : Bool). Counts before now (t && b)) differs h
