@@ -1,0 +1,4 @@
+pub mod Prefixes
+pub mod Staying
+pub mod Order
+pub mod Lifting

@@ -1,0 +1,5 @@
+pub mod Lists
+pub mod Sessions
+pub mod Agrees
+pub mod Bounds
+pub mod Example
