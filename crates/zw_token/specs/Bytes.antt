@@ -1,0 +1,20 @@
+-- The kinds of bytes that tokens are made of.
+use Rattle.std.specs.Prelude.{ℕ, Bool, ◌||◌, ◌==◌, List, [], ◌∷◌, false}
+use Rattle.std.specs.Char.{is_ascii_alphabetic, is_ascii_digit}
+
+-- blank, tab, line feed or carriage return
+unfoldable pub is_white : ℕ → Bool
+is_white b = b == 32 || b == 9 || b == 10 || b == 13
+
+-- what a name begins with: a letter or `_`
+unfoldable pub is_name_start : ℕ → Bool
+is_name_start b = is_ascii_alphabetic b || b == 95
+
+-- what a name goes on with: a letter, `_` or a digit
+unfoldable pub is_name_byte : ℕ → Bool
+is_name_byte b = is_name_start b || is_ascii_digit b
+
+-- a name or a keyword begins here
+abbrev pub starts_word : List ℕ → Bool
+starts_word [] = false
+starts_word (b ∷ bs) = is_name_start b

@@ -1,0 +1,4 @@
+pub mod Bytes
+pub mod Names
+pub mod Tables
+pub mod Tokens

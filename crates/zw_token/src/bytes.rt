@@ -1,0 +1,52 @@
+// The kinds of bytes, and how many bytes of one kind a text begins with.
+ghost use Rattle.std.specs.Prelude.{◌≡◌};
+ghost use Rattle.std.specs.List.{prefix_len};
+ghost use Rattle.zw_token.specs.Bytes.{is_white, is_name_start, is_name_byte, starts_word};
+
+/// Blank, tab, line feed or carriage return.
+#[tactic(auto, unfolding(crate::specs::Bytes::is_white))]
+pub fn is_white(byte: u8) -> bool
+    ensures { result ≡ is_white byte }
+{
+    byte == b' ' || byte == b'\t' || byte == b'\n' || byte == b'\r'
+}
+
+/// What a name begins with.
+#[tactic(auto, unfolding(crate::specs::Bytes::is_name_start))]
+pub fn is_name_start(byte: u8) -> bool
+    ensures { result ≡ is_name_start byte }
+{
+    byte.is_ascii_alphabetic() || byte == b'_'
+}
+
+/// What a name goes on with.
+#[tactic(auto, unfolding(crate::specs::Bytes::is_name_byte))]
+pub fn is_name_byte(byte: u8) -> bool
+    ensures { result ≡ is_name_byte byte }
+{
+    is_name_start(byte) || byte.is_ascii_digit()
+}
+
+/// Whether a name or a keyword begins here.
+pub fn starts_word(rest: &[u8]) -> bool
+    ensures { result ≡ starts_word rest.now }
+{
+    match rest {
+        [first, ..] => is_name_start(*first),
+        [] => false,
+    }
+}
+
+/// How many bytes of white space stand here.
+pub fn white_len(rest: &[u8]) -> usize
+    ensures { result ≡ prefix_len is_white rest.now }
+{
+    rest.iter().take_while(|byte| is_white(**byte)).count()
+}
+
+/// How many bytes of a name stand here.
+pub fn word_len(rest: &[u8]) -> usize
+    ensures { result ≡ prefix_len is_name_byte rest.now }
+{
+    rest.iter().take_while(|byte| is_name_byte(**byte)).count()
+}

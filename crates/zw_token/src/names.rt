@@ -1,0 +1,87 @@
+// The names that stand for types and values of the language, and those of types that aren't in the profile.
+ghost use Rattle.std.specs.Prelude.{◌≡◌, ◌↔◌, IsTrue};
+ghost use Rattle.std.specs.Char.{is_ascii_digit};
+ghost use Rattle.std.specs.List.{list_all};
+ghost use Rattle.zw_token.specs.Names.{is_decimal, is_sized_name, IsPrimitiveName, IsRefusedName};
+
+use crate::tables::has;
+
+// The names of primitive types and values, beside `u8`, `i32` and their like (Zig Language Reference 0.13.0,
+// Primitive Types and Primitive Values).
+const PRIMITIVE_NAMES: [&str; 12] = [
+    "usize",
+    "isize",
+    "bool",
+    "void",
+    "noreturn",
+    "type",
+    "anyerror",
+    "comptime_int",
+    "true",
+    "false",
+    "null",
+    "undefined",
+];
+
+// The names of primitive types of Zig that aren't in the profile.
+const REFUSED_NAMES: [&str; 17] = [
+    "f16",
+    "f32",
+    "f64",
+    "f80",
+    "f128",
+    "comptime_float",
+    "anyopaque",
+    "c_char",
+    "c_short",
+    "c_ushort",
+    "c_int",
+    "c_uint",
+    "c_long",
+    "c_ulong",
+    "c_longlong",
+    "c_ulonglong",
+    "c_longdouble",
+];
+
+// Whether all of these bytes are decimal digits.
+fn are_digits(bytes: &[u8]) -> bool
+    ensures { result ≡ list_all is_ascii_digit bytes.now }
+{
+    bytes.iter().all(|digit| digit.is_ascii_digit())
+}
+
+// Whether these are the digits of a decimal number without a leading zero, or `0`.
+fn is_decimal(digits: &[u8]) -> bool
+    ensures { result ≡ is_decimal digits.now }
+{
+    match digits {
+        [] => false,
+        [b'0', rest @ ..] => rest.is_empty(),
+        [_, ..] => are_digits(digits),
+    }
+}
+
+// Whether this is `u` or `i` and a decimal number.
+fn is_sized_name(name: &[u8]) -> bool
+    ensures { result ≡ is_sized_name name.now }
+{
+    match name {
+        [b'i' | b'u', ..] => is_decimal(&name[1..]),
+        _ => false,
+    }
+}
+
+/// Whether the name is that of a primitive type or value. Such a name is never declared.
+pub fn is_primitive_name(name: &[u8]) -> bool
+    ensures { IsTrue result ↔ IsPrimitiveName name.now }
+{
+    is_sized_name(name) || has(&PRIMITIVE_NAMES, name)
+}
+
+/// Whether the name is that of a type of Zig that isn't in the profile.
+pub fn is_refused_name(name: &[u8]) -> bool
+    ensures { IsTrue result ↔ IsRefusedName name.now }
+{
+    has(&REFUSED_NAMES, name)
+}
