@@ -1,0 +1,13 @@
+pub mod LebLemmas
+pub mod LebSpellings
+pub mod Lists
+pub mod Encodes
+pub mod RunsCompose
+pub mod TypingTakes
+pub mod SumCode
+pub mod MachineLasts
+pub mod Calls
+pub mod SumModuleLaws
+pub mod Computing
+pub mod SumAgrees
+pub mod Writes

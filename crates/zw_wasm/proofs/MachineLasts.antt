@@ -1,0 +1,195 @@
+-- A module's machine keeps the law of machines: a call that ended stays ended, with the same record, under a larger
+-- bound, and one that runs on only adds to its record.
+use Rattle.std.proofs.Common.{◌≡◌, ℕ, zero, suc, ◌+◌, ◌≤◌, List, [], ◌∷◌, Option, Some, None, refl, sym, ap, subst, arith}
+use Rattle.zw_session.proofs.Prefixes.{prefix_same, prefix_trans, prefix_front}
+use Rattle.zw_session.specs.Bounds.{Lasts, LeavesWithin, StaysEnded}
+use Rattle.zw_session.specs.Lists.{IsPrefix}
+use Rattle.zw_session.specs.Sessions.{Scalar, HostEvent, Halt, Panicked, WantsReply, Running, Wild, Trapped, Halted, Outcome}
+use Rattle.zw_wasm.proofs.RunsCompose.{with_more, run-stays_ended}
+use Rattle.zw_wasm.specs.declared.module.Instr.{Instr}
+use Rattle.zw_wasm.specs.declared.module.Instr.TheVariants.{Unreachable, End, LocalGet, I32Const, I32Add}
+use Rattle.zw_wasm.specs.declared.module.Module.{Module}
+use Rattle.zw_wasm.specs.declared.module.ValType.{ValType}
+use Rattle.zw_wasm.specs.ModuleMachine.{begun, run_export, end_of, outcome_of, module_machine, export_in}
+use Rattle.zw_wasm.specs.Reduction.{Config, World, Store, Step, Next, Stops, Rests, Stop, Finished, Trap, NoReply, Run, Going, Ended, Action, Goes, CallsHost, Traps, Fetched, Found, Over, with_operand, on_two_i32, i32_add, act, replied, host_called, resolved, step_of, step, stands_in, fetched, at_bound, after_step, run}
+use Rattle.zw_wasm.specs.Signature.{Reading, View, shown_ranges}
+use Rattle.zw_wasm.specs.Structure.{Num, I32, I64}
+
+-- an action leaves the world as it is
+abbrev KeepsWorld : World → Action → Type 0
+KeepsWorld w (Goes c) = c.world ≡ w
+KeepsWorld w (CallsHost k args c) = c.world ≡ w
+KeepsWorld w (Traps code) = Unit {0}
+
+with_operand-keeps : (o : Option Num) (c : Config) → KeepsWorld c.world (with_operand o c)
+with_operand-keeps None c = tt
+with_operand-keeps (Some v) c = refl
+
+on_two-keeps : (f : ℕ → ℕ → Num) (os : List Num) (c : Config) → KeepsWorld c.world (on_two_i32 f os c)
+on_two-keeps f [] c = tt
+on_two-keeps f (I64 y ∷ os) c = tt
+on_two-keeps f (I32 y ∷ []) c = tt
+on_two-keeps f (I32 y ∷ I64 x ∷ os) c = tt
+on_two-keeps f (I32 y ∷ I32 x ∷ os) c = refl
+
+act-keeps : (i : Instr) (c : Config) → KeepsWorld c.world (act i c)
+act-keeps Unreachable c = tt
+act-keeps End c = tt
+act-keeps (LocalGet n) c = with_operand-keeps _ c
+act-keeps (I32Const z) c = refl
+act-keeps I32Add c = on_two-keeps i32_add c.frame.operands c
+
+-- the host calls so far, after a step from this world
+abbrev step_events : World → Step → List HostEvent
+step_events w (Next d) = d.world.events
+step_events w (Stops s d) = d.events
+step_events w (Rests results) = w.events
+
+abbrev run_events : Run → List HostEvent
+run_events (Going w) = w.events
+run_events (Ended s w left) = w.events
+
+replied-events : (t : Option ValType) (replies : List ℕ) (c : Config) (w : World) → IsPrefix w.events c.world.events → IsPrefix w.events (step_events w (replied t replies c))
+replied-events None replies c w p = p
+replied-events (Some t) [] c w p = p
+replied-events (Some t) (r ∷ rs) c w p = p
+
+host_called-events : (shown : Option (List (List ℕ))) (m : Module) (v : View) (k : ℕ) (args : List Num) (c : Config) → IsPrefix c.world.events (step_events c.world (host_called shown m v k args c))
+host_called-events None m v k args c = prefix_same c.world.events
+host_called-events (Some shown) m v k args c = replied-events _ _ _ c.world (prefix_front c.world.events _)
+
+resolved-events : (m : Module) (v : View) (w : World) (a : Action) → KeepsWorld w a → IsPrefix w.events (step_events w (resolved m v w a))
+resolved-events m v w (Goes c) e = subst (λ (u : World). IsPrefix w.events u.events) (sym e) (prefix_same w.events)
+resolved-events m v w (CallsHost k args c) e =
+    subst (λ (u : World). IsPrefix u.events (step_events u (resolved m v w (CallsHost k args c)))) e
+    (host_called-events (shown_ranges (v.import_params k) args c.world.store.memory) m v k args c)
+resolved-events m v w (Traps code) e = prefix_same w.events
+
+step_of-events : (m : Module) (v : View) (w : World) (f : Fetched) → IsPrefix w.events (step_events w (step_of m v w f))
+step_of-events m v w (Found i f below) = resolved-events m v w _ (act-keeps i (record { frame = f; below = below; world = w }))
+step_of-events m v w (Over results) = prefix_same w.events
+
+step-events : (m : Module) (v : View) (c : Config) → IsPrefix c.world.events (step_events c.world (step m v c))
+step-events m v c = step_of-events m v c.world (fetched (stands_in c.frame) c.below)
+
+at_bound-events : (s : Step) (w : World) → IsPrefix w.events (run_events (at_bound s w))
+at_bound-events (Next d) w = prefix_same w.events
+at_bound-events (Stops s d) w = prefix_same w.events
+at_bound-events (Rests results) w = prefix_same w.events
+
+after_step-events : (s : Step) (w : World) (n : ℕ) (go : Config → Run) → ((d : Config) → IsPrefix d.world.events (run_events (go d))) → IsPrefix w.events (step_events w s) → IsPrefix w.events (run_events (after_step s w n go))
+after_step-events (Next d) w n go h p = prefix_trans p (h d)
+after_step-events (Stops s d) w n go h p = p
+after_step-events (Rests results) w n go h p = p
+
+-- a run adds to the host calls
+run-events : (m : Module) (v : View) (n : ℕ) (c : Config) → IsPrefix c.world.events (run_events (run m v n c))
+run-events m v zero c = at_bound-events (step m v c) c.world
+run-events m v (suc n) c = after_step-events (step m v c) c.world n (run m v n) (run-events m v n) (step-events m v c)
+
+-- the end of a run leaves no more of the bound than there was
+abbrev Within : ℕ → Run → Type 0
+Within n (Going w) = Unit {0}
+Within n (Ended s w left) = left ≤ n
+
+-- What is known of the runs with each bound: one that ended stays ended, and one that goes on adds to its host calls.
+record Stays (r : ℕ → Run) : Type 0 where
+  ended : (n k : ℕ) (s : Stop) (w : World) (left : ℕ) → r n ≡ Ended s w left → r (n + k) ≡ Ended s w (left + k)
+  going : (n k : ℕ) (w : World) → r n ≡ Going w → IsPrefix w.events (run_events (r (n + k)))
+  within : (n : ℕ) → Within n (r n)
+
+going_at_bound : (s : Step) (u w : World) → at_bound s u ≡ Going w → u ≡ w
+going_at_bound (Next d) u w e = cc
+going_at_bound (Stops s d) u w e = cc
+going_at_bound (Rests results) u w e = cc
+
+going_after : (n k : ℕ) (s : Step) (u : World) (go more : Config → Run) (w : World) → ((d : Config) → go d ≡ Going w → IsPrefix w.events (run_events (more d))) → after_step s u n go ≡ Going w → IsPrefix w.events (run_events (after_step s u (n + k) more))
+going_after n k (Next d) u go more w h e = h d e
+going_after n k (Stops s d) u go more w h e = absurd (cc)
+going_after n k (Rests results) u go more w h e = absurd (cc)
+
+run-going : (m : Module) (v : View) (n k : ℕ) (c : Config) (w : World) → run m v n c ≡ Going w → IsPrefix w.events (run_events (run m v (n + k) c))
+run-going m v zero k c w e =
+    let same : c.world ≡ w = going_at_bound (step m v c) c.world w e in
+    subst (λ (u : World). IsPrefix u.events (run_events (run m v (zero + k) c))) same (run-events m v (zero + k) c)
+run-going m v (suc n) k c w e =
+    let count : suc (n + k) ≡ suc n + k = omega arith in
+    subst (λ j. IsPrefix w.events (run_events (run m v j c))) count
+    (going_after n k (step m v c) c.world (run m v n) (run m v (n + k)) w (λ d. run-going m v n k d w) e)
+
+at_bound-within : (s : Step) (w : World) → Within 0 (at_bound s w)
+at_bound-within (Next d) w = tt
+at_bound-within (Stops s d) w = tt
+at_bound-within (Rests results) w = omega arith
+
+within_more : (n : ℕ) (r : Run) → Within n r → Within (suc n) r
+within_more n (Going w) h = tt
+within_more n (Ended s w left) h = omega arith
+
+after_step-within : (s : Step) (w : World) (n : ℕ) (go : Config → Run) → ((d : Config) → Within n (go d)) → Within (suc n) (after_step s w n go)
+after_step-within (Next d) w n go h = within_more n (go d) (h d)
+after_step-within (Stops s d) w n go h = omega arith
+after_step-within (Rests results) w n go h = omega arith
+
+run-within : (m : Module) (v : View) (n : ℕ) (c : Config) → Within n (run m v n c)
+run-within m v zero c = at_bound-within (step m v c) c.world
+run-within m v (suc n) c = after_step-within (step m v c) c.world n (run m v n) (run-within m v n)
+
+run-stays : (m : Module) (v : View) (c : Config) → Stays (λ n. run m v n c)
+run-stays m v c = record {
+  ended = λ n k s w left. run-stays_ended m v n k c s w left;
+  going = λ n k w. run-going m v n k c w;
+  within = λ n. run-within m v n c;
+}
+
+-- a run that ended before it began
+ended-stays : (s : Stop) (w : World) → Stays (Ended s w)
+ended-stays s w = record {
+  ended = λ n k t u left e. ap (with_more k) e;
+  going = λ n k u e. absurd (cc);
+  within = λ n. omega arith;
+}
+
+begun-stays : (s : Step) (w : World) (m : Module) (v : View) → Stays (begun s w m v)
+begun-stays (Next c) w m v = run-stays m v c
+begun-stays (Stops s d) w m v = ended-stays s d
+begun-stays (Rests results) w m v = ended-stays (Finished results) w
+
+export-stays : (f : Option ℕ) (m : Module) (v : View) (args : List Scalar) (w : World) → Stays (run_export f m v args w)
+export-stays None m v args w = ended-stays (Trap 0) w
+export-stays (Some f) m v args w = begun-stays _ w m v
+
+outcome-events : (m : Module) (r : Option Reading) (x : Run) → (outcome_of m r x).events ≡ run_events x
+outcome-events m r (Going w) = refl
+outcome-events m r (Ended s w left) = refl
+
+-- a call that halted halts the same
+halted-lasts : (k : ℕ) (events : List HostEvent) (h : Halt) (later : Outcome Store) → later ≡ record { events = events; end = Halted h } → Lasts k events (Halted h) later
+halted-lasts k events (Panicked cause message) later e = e
+halted-lasts k events WantsReply later e = e
+halted-lasts k events Running later e = subst (λ (o : Outcome Store). IsPrefix events o.events) (sym e) (prefix_same events)
+halted-lasts k events Wild later e = e
+halted-lasts k events (Trapped code) later e = e
+
+stop-lasts : (m : Module) (r : Option Reading) (k left : ℕ) (s : Stop) (w : World) (later : Outcome Store) → later ≡ outcome_of m r (Ended s w (left + k)) → Lasts k w.events (end_of m r s w left) later
+stop-lasts m r k left (Finished results) w later e = e
+stop-lasts m r k left (Trap code) w later e = halted-lasts k w.events _ later e
+stop-lasts m r k left NoReply w later e = e
+
+run-lasts : (m : Module) (r : Option Reading) (runs : ℕ → Run) → Stays runs → (n k : ℕ) (x : Run) → runs n ≡ x → Lasts k (outcome_of m r x).events (outcome_of m r x).end (outcome_of m r (runs (n + k)))
+run-lasts m r runs h n k (Going w) e =
+    subst (λ es. IsPrefix w.events es) (sym (outcome-events m r (runs (n + k)))) (h.going n k w e)
+run-lasts m r runs h n k (Ended s w left) e =
+    stop-lasts m r k left s w _ (ap (outcome_of m r) (h.ended n k s w left e))
+
+run-leaves : (m : Module) (r : Option Reading) (n : ℕ) (x : Run) → Within n x → LeavesWithin n (outcome_of m r x).end
+run-leaves m r n (Going w) h = tt
+run-leaves m r n (Ended (Finished results) w left) h = h
+run-leaves m r n (Ended (Trap code) w left) h = tt
+run-leaves m r n (Ended NoReply w left) h = tt
+
+pub machine-stays_ended : (m : Module) (v : View) → StaysEnded (module_machine m v)
+machine-stays_ended m v = record {
+  lasts = λ store c replies n k. run-lasts m _ _ (export-stays (export_in 0 c.name m.exports) m v c.args (record { store = store; replies = replies; events = [] })) n k _ refl;
+  left = λ store c replies n. run-leaves m _ n _ ((export-stays (export_in 0 c.name m.exports) m v c.args (record { store = store; replies = replies; events = [] })).within n);
+}

@@ -1,0 +1,11 @@
+use Rattle.zw_wasm.proofs.LebSpellings.{long_forty_two, long_minus_two, five_bytes, five_bytes_signed, below_32_bits}
+use Rattle.zw_wasm.proofs.laws.longer_numbers.Goals as goal
+
+pub returns : goal.returns
+returns c = record {
+  unsigned = long_forty_two;
+  signed = long_minus_two;
+  five_bytes = five_bytes;
+  five_signed_bytes = five_bytes_signed;
+  below = below_32_bits;
+}

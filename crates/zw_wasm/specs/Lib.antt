@@ -1,0 +1,16 @@
+pub mod Leb
+pub mod Spelling
+pub mod ModuleBytes
+pub mod Fits
+pub mod WellFormed
+pub mod Typing
+pub mod Validity
+pub mod Structure
+pub mod Signature
+pub mod Reduction
+pub mod ModuleMachine
+pub mod Sequences
+pub mod SumModule
+pub mod Laws
+pub mod Computed
+pub mod Writing
