@@ -1,0 +1,56 @@
+-- The status blames the object that failed.
+use Rattle.std.proofs.Common.{◌≡◌, ◌⊎◌, ℕ, ◌<◌, List, [], ◌∷◌, Option, Result, Ok, Err, refl, sym, ◌∙◌, ap, inl, inr, arith, true, lit<}
+use Rattle.zw_base.specs.Faults.{Counts}
+use Rattle.zw_base.specs.declared.files.Handed.{Handed}
+use Rattle.zw_drive.specs.Due.{IsBlamed}
+use Rattle.zw_drive.specs.Ends.{WritesTree, Reports, Says, code_of, tree_failed, out_failed}
+use Rattle.zw_drive.specs.Lines.{stop_line, tree_fault_line, out_fault_line}
+use Rattle.zw_drive.specs.declared.build.BuildErr.{BuildErr}
+use Rattle.zw_drive.specs.declared.build.BuildErr.TheVariants as build
+use Rattle.zw_drive.specs.declared.status.Status.{Status}
+use Rattle.zw_drive.specs.declared.status.Status.TheVariants as statuses
+
+-- a said line has its own status, or 10 or 11
+abbrev pub OneOf : ℕ → ℕ → Type 0
+OneOf own status = (status ≡ own) ⊎ (status ≡ 10) ⊎ (status ≡ 11)
+
+said_code : (own : Status) (line : List ℕ) (before after : Option (List ℕ)) (status : Status) → Says own line before after status → OneOf (code_of own) (code_of status)
+said_code own line before after status says =
+    elim says.ends [ inl h ↦ inl (ap code_of h.1) | inr h ↦ elim h.1 [ inl e ↦ inr (inl (ap code_of e)) | inr e ↦ inr (inr (ap code_of e)) ] ]
+
+-- an object whose count stayed
+unblamed : (before now status code : ℕ) → now ≡ before → (status ≡ code → ⊥) → IsBlamed before now status code (10 ∷ 11 ∷ [])
+unblamed before now status code same other =
+    record { not_fallen = omega arith; cause = λ e. absurd (other e); told = λ h. absurd (omega arith) }
+
+-- an object that failed
+blamed : (before now status code : ℕ) → Counts before now true → OneOf code status → IsBlamed before now status code (10 ∷ 11 ∷ [])
+blamed before now status code rose one = record {
+  not_fallen = rose.not_fallen;
+  cause = λ e. rose;
+  told = λ h. elim one [ inl e ↦ (0, lit< tt, sym e) | inr o ↦ elim o [ inl e ↦ (1, lit< tt, sym e) | inr e ↦ (2, lit< tt, sym e) ] ];
+}
+
+-- a status that is one of three is no fourth
+no_fourth : (own status code : ℕ) → OneOf own status → (own ≡ code → ⊥) → (10 ≡ code → ⊥) → (11 ≡ code → ⊥) → status ≡ code → ⊥
+no_fourth own status code one a b c e = elim one [ inl h ↦ a (sym h ∙ e) | inr o ↦ elim o [ inl h ↦ b (sym h ∙ e) | inr h ↦ c (sym h ∙ e) ] ]
+
+-- the tree
+pub tree_blamed : (faults_before faults_now : ℕ) (root : List ℕ) (old new : List Handed) (out_before out_after : Option (List ℕ)) (built : Result (Unit {0}) BuildErr) (before after : Option (List ℕ)) (status : Status) → WritesTree root old new out_before out_after built → Counts faults_before faults_now (tree_failed built) → Reports root built before after status → IsBlamed faults_before faults_now (code_of status) 7 (10 ∷ 11 ∷ [])
+tree_blamed f g root old new out_before out_after (Ok x) before after status w counts says = unblamed f g _ 7 counts (λ e. omega (arith, ap code_of says.own_status))
+tree_blamed f g root old new out_before out_after (Err (build.Stop stop)) before after status w counts says =
+    unblamed f g _ 7 counts (no_fourth 1 (code_of status) 7 (said_code statuses.Stopped (stop_line root stop) before after status says) (λ e. omega arith) (λ e. omega arith) (λ e. omega arith))
+tree_blamed f g root old new out_before out_after (Err build.TreeFault) before after status w counts says = blamed f g (code_of status) 7 counts (said_code statuses.TreeFault tree_fault_line before after status says)
+tree_blamed f g root old new out_before out_after (Err build.OutFault) before after status w counts says =
+    unblamed f g _ 7 counts (no_fourth 9 (code_of status) 7 (said_code statuses.OutFault out_fault_line before after status says) (λ e. omega arith) (λ e. omega arith) (λ e. omega arith))
+tree_blamed f g root old new out_before out_after (Err build.Oom) before after status w counts says = unblamed f g _ 7 counts (λ e. omega (arith, ap code_of says.own_status))
+
+-- the output
+pub out_blamed : (faults_before faults_now : ℕ) (root : List ℕ) (old new : List Handed) (out_before out_after : Option (List ℕ)) (built : Result (Unit {0}) BuildErr) (before after : Option (List ℕ)) (status : Status) → WritesTree root old new out_before out_after built → Counts faults_before faults_now (out_failed built) → Reports root built before after status → IsBlamed faults_before faults_now (code_of status) 9 (10 ∷ 11 ∷ [])
+out_blamed f g root old new out_before out_after (Ok x) before after status w counts says = unblamed f g _ 9 counts (λ e. omega (arith, ap code_of says.own_status))
+out_blamed f g root old new out_before out_after (Err (build.Stop stop)) before after status w counts says =
+    unblamed f g _ 9 counts (no_fourth 1 (code_of status) 9 (said_code statuses.Stopped (stop_line root stop) before after status says) (λ e. omega arith) (λ e. omega arith) (λ e. omega arith))
+out_blamed f g root old new out_before out_after (Err build.TreeFault) before after status w counts says =
+    unblamed f g _ 9 counts (no_fourth 7 (code_of status) 9 (said_code statuses.TreeFault tree_fault_line before after status says) (λ e. omega arith) (λ e. omega arith) (λ e. omega arith))
+out_blamed f g root old new out_before out_after (Err build.OutFault) before after status w counts says = blamed f g (code_of status) 9 counts (said_code statuses.OutFault out_fault_line before after status says)
+out_blamed f g root old new out_before out_after (Err build.Oom) before after status w counts says = unblamed f g _ 9 counts (λ e. omega (arith, ap code_of says.own_status))

@@ -1,0 +1,58 @@
+-- No two statuses and no two lines are due for the same words and files.
+use Rattle.std.proofs.Common.{◌≡◌, ◌⊎◌, ℕ, Bool, true, false, List, [], ◌∷◌, Option, Some, None, refl, sym, ◌∙◌, ap, subst, inl, inr, codes, nat_eq, MatchBool}
+use Rattle.std.specs.List.{ends_with}
+use Rattle.zw_base.specs.declared.files.Answer.{Answer}
+use Rattle.zw_base.specs.declared.files.Answer.TheVariants.{Bytes, Absent, TooLong}
+use Rattle.zw_base.specs.declared.files.Handed.{Handed}
+use Rattle.zw_base.specs.declared.stop.StopKind.{StopKind}
+use Rattle.zw_drive.specs.Commands.{CommandLine, Build, command_of}
+use Rattle.zw_drive.specs.Due.{IsStop, IsModule, IsAnswerDue, IsRootDue, IsBuildDue, IsCommandDue, IsUsage, IsDue}
+use Rattle.zw_drive.specs.Meaning.{Builds, IsUnbuilt}
+use Rattle.zw_drive.specs.declared.stops.TheConstants.{IMPORT_PATH, FILE_ABSENT, FILE_LENGTH, NOT_BUILT}
+
+-- the same status and the same line
+abbrev pub IsSame : ℕ → ℕ → List ℕ → List ℕ → Type 0
+IsSame status status' line line' = (status ≡ status') × (line ≡ line')
+
+one_stop : (root : List ℕ) (kind : StopKind) (s t : ℕ) (out out' line line' : List ℕ) → IsStop root kind s out line → IsStop root kind t out' line' → IsSame s t line line'
+one_stop root kind s t out out' line line' h k = (h.status_is ∙ sym k.status_is, h.line_is ∙ sym k.line_is)
+
+one_module : (s t : ℕ) (line line' : List ℕ) → IsModule s line → IsModule t line' → IsSame s t line line'
+one_module s t line line' h k = (h.status_is ∙ sym k.status_is, h.line_is ∙ sym k.line_is)
+
+one_text : (root text : List ℕ) (s t : ℕ) (out out' line line' : List ℕ) → IsAnswerDue root (Bytes text) s out line → IsAnswerDue root (Bytes text) t out' line' → IsSame s t line line'
+one_text root text s t out out' line line' (inl h) (inl k) = one_module s t line line' h.1 k.1
+one_text root text s t out out' line line' (inl h) (inr k) = absurd (k.0 h.0.means.function h.0.means.form)
+one_text root text s t out out' line line' (inr h) (inl k) = absurd (h.0 k.0.means.function k.0.means.form)
+one_text root text s t out out' line line' (inr h) (inr k) = one_stop root NOT_BUILT s t out out' line line' h.1 k.1
+
+one_answer : (root : List ℕ) (answer : Answer) (s t : ℕ) (out out' line line' : List ℕ) → IsAnswerDue root answer s out line → IsAnswerDue root answer t out' line' → IsSame s t line line'
+one_answer root Absent s t out out' line line' h k = one_stop root FILE_ABSENT s t out out' line line' h k
+one_answer root TooLong s t out out' line line' h k = one_stop root FILE_LENGTH s t out out' line line' h k
+one_answer root (Bytes text) s t out out' line line' h k = one_text root text s t out out' line line' h k
+
+first_answer : List Handed → Answer → Answer
+first_answer [] a = a
+first_answer (pair ∷ pairs) a = pair.answer
+
+-- one pair has one answer
+same_answer : (root : List ℕ) (files : List Handed) (a b : Answer) → files ≡ record { path = root; answer = a } ∷ [] → files ≡ record { path = root; answer = b } ∷ [] → b ≡ a
+unfolding first_answer
+same_answer root files a b h k = ap (λ pairs. first_answer pairs a) (sym k ∙ h)
+
+one_root : (root : List ℕ) (files : List Handed) (s t : ℕ) (out out' line line' : List ℕ) → IsRootDue root files s out line → IsRootDue root files t out' line' → IsSame s t line line'
+one_root root files s t out out' line line' h k =
+    one_answer root h.0 s t out out' line line' h.2 (subst (λ (a : Answer). IsAnswerDue root a t out' line') (same_answer root files h.0 k.0 h.1 k.1) k.2)
+
+one_build : (b : Bool) (root : List ℕ) (files : List Handed) (s t : ℕ) (out out' line line' : List ℕ) → MatchBool b (IsRootDue root files s out line) ((files ≡ []) × IsStop root IMPORT_PATH s out line) → MatchBool b (IsRootDue root files t out' line') ((files ≡ []) × IsStop root IMPORT_PATH t out' line') → IsSame s t line line'
+one_build true root files s t out out' line line' h k = one_root root files s t out out' line line' h k
+one_build false root files s t out out' line line' h k = one_stop root IMPORT_PATH s t out out' line line' h.1 k.1
+
+one_command : (asked : Option CommandLine) (files : List Handed) (s t : ℕ) (out out' line line' : List ℕ) → IsCommandDue asked files s out line → IsCommandDue asked files t out' line' → IsSame s t line line'
+one_command None files s t out out' line line' h k = (h.status_is ∙ sym k.status_is, h.line_is ∙ sym k.line_is)
+one_command (Some (Build root)) files s t out out' line line' h k =
+    one_build (ends_with nat_eq root (codes ".zig")) root files s t out out' line line' h k
+
+-- for the same words and files
+pub one_due_lem : (words : List (List ℕ)) (files : List Handed) (s t : ℕ) (out out' line line' : List ℕ) → IsDue words files s out line → IsDue words files t out' line' → IsSame s t line line'
+one_due_lem words files s t out out' line line' h k = one_command (command_of words) files s t out out' line line' h k

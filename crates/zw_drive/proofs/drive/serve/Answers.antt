@@ -1,0 +1,20 @@
+use Rattle.std.proofs.Common.{sym}
+use Rattle.zw_drive.proofs.ServeLemmas.{serves_usage, serves_build}
+use Rattle.zw_drive.proofs.BlameLemmas.{tree_blamed, out_blamed}
+use Rattle.zw_drive.proofs.drive.serve.Goals as goal
+
+pub returns-in-Unknown-clause-serves : goal.returns-in-Unknown-clause-serves
+returns-in-Unknown-clause-serves g c =
+    serves_usage c.args.words.now _ _ _ _ _ (sym c.in-Unknown.ensures) (rw c.as_bytes.ensures.value at c.say.ensures.says)
+
+pub returns-in-Build-clause-serves : goal.returns-in-Build-clause-serves
+returns-in-Build-clause-serves g c =
+    serves_build c.args.words.now _ _ _ _ _ _ _ _ _ c.build-built.ensures.ends (sym c.in-Build.ensures) c.report.ensures.reports
+
+pub returns-in-Build-clause-tree_blamed : goal.returns-in-Build-clause-tree_blamed
+returns-in-Build-clause-tree_blamed g c =
+    tree_blamed _ _ _ _ _ _ _ _ (g.D.Sink.taken c.args.diag.now) (g.D.Sink.taken c.report.new.diag) c.report.result c.build-built.ensures.ends c.build-built.ensures.tree_cause c.report.ensures.reports
+
+pub returns-in-Build-clause-out_blamed : goal.returns-in-Build-clause-out_blamed
+returns-in-Build-clause-out_blamed g c =
+    out_blamed _ _ _ _ _ _ _ _ (g.D.Sink.taken c.args.diag.now) (g.D.Sink.taken c.report.new.diag) c.report.result c.build-built.ensures.ends c.build-built.ensures.out_cause c.report.ensures.reports

@@ -1,0 +1,96 @@
+// The call that the program makes.
+ghost use Rattle.std.specs.Prelude.{◌≡◌, ◌≢◌, ℕ, List, [], ◌∷◌};
+ghost use Rattle.zw_base.specs.declared.files.Handed.{Handed};
+ghost use Rattle.zw_drive.specs.Due.{Serves, IsBlamed, IsDue};
+ghost use Rattle.zw_drive.specs.Ends.{code_of, Says, Reports, HasNamedStop};
+
+use crate::build::{BuildErr, build};
+use crate::command::{Command, read_command};
+use crate::lines::{OUT_FAULT, TREE_FAULT, USAGE, stop_line};
+use crate::status::Status;
+use std::alloc::Global;
+use zw_base::{PutErr, Sink, Source, Tree, Word, put_all};
+
+/// Does what the words of a command line ask for, and answers the status: 0 where all was written, 1 where the tree of
+/// files has a stop, 2 where the words are no command, 7, 9 and 10 for a fault of `tree`, `out` and `diag`, and 11 for want
+/// of memory. Only commands that say so read `input`.
+pub fn zig<T: Tree, S: Source, O: Sink, D: Sink>(
+    alloc: Global,
+    words: &[Word],
+    tree: &mut T,
+    input: &mut S,
+    out: &mut O,
+    diag: &mut D,
+) -> u8
+    // What was due is done: files, bytes, line and status.
+    ensures serves { Serves words.now (T.loaded tree.old) (T.loaded tree.new) (O.taken out.old) (O.taken out.new) (D.taken diag.old) (D.taken diag.new) result }
+
+    // A fault's status comes only where its object failed, and no failure passes without one.
+    ensures tree_blamed { IsBlamed (T.faults tree.old) (T.faults tree.new) result 7 (10 ∷ 11 ∷ []) }
+    ensures out_blamed { IsBlamed (O.faults out.old) (O.faults out.new) result 9 (10 ∷ 11 ∷ []) }
+    ensures diag_blamed { IsBlamed (D.faults diag.old) (D.faults diag.new) result 10 [] }
+
+    // The input isn't read.
+    ensures input { input.new ≡ input.old }
+{
+    let _ = input;
+    serve(alloc, words, tree, out, diag) as u8
+}
+
+/// Does what the words ask for.
+fn serve<T: Tree, O: Sink, D: Sink>(
+    alloc: Global,
+    words: &[Word],
+    tree: &mut T,
+    out: &mut O,
+    diag: &mut D,
+) -> Status
+    ensures serves { Serves words.now (T.loaded tree.old) (T.loaded tree.new) (O.taken out.old) (O.taken out.new) (D.taken diag.old) (D.taken diag.new) (code_of result) }
+    ensures tree_blamed { IsBlamed (T.faults tree.old) (T.faults tree.new) (code_of result) 7 (10 ∷ 11 ∷ []) }
+    ensures out_blamed { IsBlamed (O.faults out.old) (O.faults out.new) (code_of result) 9 (10 ∷ 11 ∷ []) }
+    ensures diag_blamed { IsBlamed (D.faults diag.old) (D.faults diag.new) (code_of result) 10 [] }
+{
+    match read_command(words) {
+        Command::Unknown => say(diag, Status::Usage, USAGE.as_bytes()),
+        Command::Build { root } => {
+            let built = build(alloc, root, tree, out);
+            report(alloc, root, built, diag)
+        }
+    }
+}
+
+/// Says how building the tree below this root ended.
+fn report<D: Sink>(alloc: Global, root: &Word, built: Result<(), BuildErr>, diag: &mut D) -> Status
+    requires { HasNamedStop built }
+    ensures reports { Reports root.now built (D.taken diag.old) (D.taken diag.new) result }
+    ensures blamed { IsBlamed (D.faults diag.old) (D.faults diag.new) (code_of result) 10 [] }
+{
+    match built {
+        Ok(()) => Status::Done,
+        Err(BuildErr::Stop(stop)) => match stop_line(alloc, root, stop) {
+            Ok(line) => say(diag, Status::Stopped, &line),
+            Err(_) => Status::OutOfMemory,
+        },
+        Err(BuildErr::TreeFault) => say(diag, Status::TreeFault, TREE_FAULT.as_bytes()),
+        Err(BuildErr::OutFault) => say(diag, Status::OutFault, OUT_FAULT.as_bytes()),
+        Err(BuildErr::Oom) => Status::OutOfMemory,
+    }
+}
+
+/// Puts a line, and answers the status that it belongs to, unless the line can't be written.
+fn say<D: Sink>(diag: &mut D, own: Status, line: &[u8]) -> Status
+    requires { own ≢ Status.DiagFault }
+    ensures says { Says own line.now (D.taken diag.old) (D.taken diag.new) result }
+    ensures blamed { IsBlamed (D.faults diag.old) (D.faults diag.new) (code_of result) 10 [] }
+{
+    match put_all(diag, line) {
+        Ok(()) => own,
+        Err(PutErr::Failed) => Status::DiagFault,
+        Err(PutErr::Oom) => Status::OutOfMemory,
+    }
+}
+
+/// No two statuses and no two lines are due for the same words and files.
+pub fn one_due()
+    ensures { (words : List (List ℕ)) (files : List Handed) (status other : ℕ) (out more line another : List ℕ) → IsDue words files status out line → IsDue words files other more another → (status ≡ other) × (line ≡ another) }
+{}
