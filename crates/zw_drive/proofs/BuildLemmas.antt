@@ -70,7 +70,7 @@ pub writes_nothing : (root : List ℕ) (old new : List Handed) (taken : Option (
 writes_nothing root old new taken (build.Stop stop) zig h =
     record { files = pair_of root h.0; out = []; loads = h.1; writes = Appends-none taken; ends = (refl, h.2, due_loaded root (pair_of root h.0) 1 [] (stop_line root stop) zig (h.0, refl, h.3)) }
 writes_nothing root old new taken build.TreeFault zig h =
-    record { files = []; out = []; loads = h ∙ sym (append-nil old); writes = Appends-none taken; ends = (refl, refl) }
+    record { files = []; out = []; loads = h ∙ sym (append-nil old); writes = Appends-none taken; ends = (refl, refl, zig) }
 writes_nothing root old new taken build.OutFault zig h = absurd h
 writes_nothing root old new taken build.Oom zig h =
     record { files = []; out = []; loads = h ∙ sym (append-nil old); writes = Appends-none taken; ends = inl refl }

@@ -23,7 +23,7 @@ use Rattle.zw_drive.specs.Ends.{IsCompiled}
 use Rattle.zw_drive.specs.Meaning.{Means}
 use Rattle.zw_drive.specs.declared.form.Function.{Function}
 use Rattle.zw_drive.specs.declared.form.syntax.SourceFunction.{SourceFunction}
-use Rattle.zw_drive.proofs.FormFacts.{form_few, form_utf8, form_terms}
+use Rattle.zw_drive.proofs.FormBounds.{IsSound-function}
 use Rattle.zw_drive.proofs.MeaningLemmas.{Numbered, function_agrees}
 
 -- numbers that name parameters are numbers of parameters
@@ -67,7 +67,7 @@ unreserved name h =
     }
 
 -- so few parameters need no more pages than there may be
-few_pages : (params : ℕ) → params ≤ 65537 → pages_of params ≤ 65536
+few_pages : (params : ℕ) → params ≤ 65536 → pages_of params ≤ 65536
 few_pages params h = omega arith
 
 below_128 : (b : ℕ) → nat_lt b 128 ≡ true → b < 128
@@ -100,32 +100,31 @@ well_formed name pages params first others text = record {
   datas = tt;
 }
 
-no_terms : {X : Type 0} (names : List X) → [] ≡ map Some names → names ≡ []
-no_terms [] h = refl
-no_terms (name ∷ names) h = absurd (cc)
-
 -- the function with its first term apart
-means : (text : List ℕ) (f : SourceFunction) (first : ℕ) (others : List ℕ) → HasForm text f → map (slice_get f.params) (first ∷ others) ≡ map Some f.terms → Means text (sum_module f.name (pages_of (length f.params)) (length f.params) (first ∷ others))
-means text f first others form terms =
-    let few : pages_of (length f.params) ≤ 65536 = few_pages (length f.params) (form_few text f form) in
+means : (text : List ℕ) (f : SourceFunction) (first : ℕ) (others : List ℕ) → HasForm text f → map (slice_get f.params) (first ∷ others) ≡ map Some f.terms → length f.params ≤ 65536 → Means text (sum_module f.name (pages_of (length f.params)) (length f.params) (first ∷ others))
+means text f first others form terms few =
+    let pages : pages_of (length f.params) ≤ 65536 = few_pages (length f.params) few in
     let free = unreserved f.name form.rules.name_is_unreserved in
     let numbers = inside f.params (first ∷ others) f.terms terms in
     record {
       function = f;
       form = form;
-      valid = sum_module-valid f.name (pages_of (length f.params)) (length f.params) first others numbers few free.memory free.cause free.ptr free.len;
+      valid = sum_module-valid f.name (pages_of (length f.params)) (length f.params) first others numbers pages free.memory free.cause free.ptr free.len;
       agrees = function_agrees f (pages_of (length f.params)) first others (record { differ = form.rules.params_differ; terms = terms }) numbers;
     }
 
-right : (text : List ℕ) (f : SourceFunction) (numbers : List ℕ) → HasForm text f → map (slice_get f.params) numbers ≡ map Some f.terms → IsCompiled text (sum_module f.name (pages_of (length f.params)) (length f.params) numbers)
-right text f [] form terms = absurd (form_terms text f form (no_terms f.terms terms))
-right text f (first ∷ others) form terms =
-    (means text f first others form terms, well_formed f.name (pages_of (length f.params)) (length f.params) first others (form_utf8 text f form))
+right : (text : List ℕ) (f : SourceFunction) (numbers : List ℕ) → HasForm text f → map (slice_get f.params) numbers ≡ map Some f.terms → 0 < length numbers → length f.params ≤ 65536 → IsUtf8 f.name → IsCompiled text (sum_module f.name (pages_of (length f.params)) (length f.params) numbers)
+right text f [] form terms some few name = absurd (omega (arith, some))
+right text f (first ∷ others) form terms some few name =
+    (means text f first others form terms few, well_formed f.name (pages_of (length f.params)) (length f.params) first others name)
 
 -- the module of a function that was read
 pub compiled : (text : List ℕ) (g : Function) (m : Module) → m ≡ module_of g → IsFunctionOf text g → IsCompiled text m
 compiled text g m is h =
     let f = h.0 in
     let resolved = h.2 in
-    let same : module_of g ≡ sum_module f.name (pages_of (length f.params)) (length f.params) g.terms = ap (λ (name : List ℕ). sum_module name (pages_of g.params) g.params g.terms) resolved.name ∙ ap (λ (n : ℕ). sum_module f.name (pages_of n) n g.terms) resolved.params in
-    subst (IsCompiled text) (sym (is ∙ same)) (right text f g.terms h.1 resolved.terms)
+    let sound = IsSound-function text g h in
+    let few : length f.params ≤ 65536 = omega (arith, sound.params_fit, resolved.params) in
+    let name : IsUtf8 f.name = subst (λ (bytes : List ℕ). IsUtf8 bytes) resolved.name (IsUtf8-from_ascii g.name sound.name_is_ascii) in
+    let same : module_of g ≡ sum_module f.name (pages_of (length f.params)) (length f.params) g.terms = ap (λ (bytes : List ℕ). sum_module bytes (pages_of g.params) g.params g.terms) resolved.name ∙ ap (λ (n : ℕ). sum_module f.name (pages_of n) n g.terms) resolved.params in
+    subst (IsCompiled text) (sym (is ∙ same)) (right text f g.terms h.1 resolved.terms sound.has_term few name)

@@ -49,7 +49,6 @@ Param-leaves {text} {x} {y} p =
     Leaves-then (Word text y) (Mark COLON ▷ Word text (codes "u32")) (Word-leaves p.1)
     (Leaves-then (Mark COLON) (Word text (codes "u32")) (Mark-leaves p.2.1) (Word-leaves p.2.2))
 
--- the items of a list, each with what stands between it and the next
 -- Reading a list of names item by item: names were read from ts, and us is left. Each list that the rule gives at us,
 -- behind those names, is one at ts, and there are no others.
 pub record HasRead (R : List (List ℕ) → Rule) (ts us : List Token) (names : List (List ℕ)) : Type 0 where

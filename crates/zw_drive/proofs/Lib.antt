@@ -1,12 +1,11 @@
-mod BuildLemmas
-mod TextLemmas
-mod ServeLemmas
-mod BlameLemmas
+pub mod FormBounds
 pub mod FormLemmas
 pub mod FormNameLemmas
-pub mod FormFacts
-pub mod SourceLemmas
-pub mod MeaningLemmas
-pub mod CompileLemmas
-pub mod FormBounds
+mod BlameLemmas
+mod BuildLemmas
+mod CompileLemmas
 mod DueLemmas
+mod MeaningLemmas
+mod ServeLemmas
+mod SourceLemmas
+mod TextLemmas

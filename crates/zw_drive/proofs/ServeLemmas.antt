@@ -5,7 +5,7 @@ use Rattle.std.proofs.Math.Seq.{take-length}
 use Rattle.std.specs.Io.KnownBytes.{Appends}
 use Rattle.zw_base.specs.declared.files.Handed.{Handed}
 use Rattle.zw_drive.specs.Commands.{CommandLine, Build, command_of}
-use Rattle.zw_drive.specs.Due.{IsDue, IsBuildDue, IsCommandDue, IsFront, IsWhole, Ends, Serves}
+use Rattle.zw_drive.specs.Due.{IsDue, IsLoadDue, IsBuildDue, IsCommandDue, IsFront, IsWhole, Ends, Serves}
 use Rattle.zw_drive.specs.Ends.{WritesTree, Reports, Says, code_of}
 use Rattle.zw_drive.specs.Lines.{usage_line, stop_line, tree_fault_line, out_fault_line}
 use Rattle.zw_drive.specs.declared.build.BuildErr.{BuildErr}
@@ -77,7 +77,7 @@ serves_build words root old new out_before out_after before after (Err build.Tre
       writes = w.writes;
       says = says.puts;
       ends = said_ends words w.files w.out tree_fault_line says.said statuses.TreeFault status
-          (inr (inl (record { files_are = w.ends.1; status_is = refl; out_is = w.ends.0; line_is = refl }))) says.ends;
+          (inr (inl (record { asked = subst (λ (o : Option CommandLine). IsLoadDue o) (sym is) w.ends.2; files_are = w.ends.1; status_is = refl; out_is = w.ends.0; line_is = refl }))) says.ends;
     }
 serves_build words root old new out_before out_after before after (Err build.OutFault) status w is says =
     record {

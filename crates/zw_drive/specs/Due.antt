@@ -1,6 +1,6 @@
 -- What is due: for the words of a command line and what the tree handed over, the status, the bytes to the output and
 -- the line to the diagnostics. A command is one case, and so is a stop. This project's own.
-use Rattle.std.specs.Prelude.{◌≡◌, ◌⊎◌, ℕ, ◌<◌, ◌≤◌, List, [], ◌∷◌, ◌++◌, Option, Some, None, Contains, MatchBool, codes, take, nat_eq}
+use Rattle.std.specs.Prelude.{◌≡◌, ◌⊎◌, ℕ, ◌<◌, ◌≤◌, List, [], ◌∷◌, ◌++◌, Option, Some, None, Contains, true, MatchBool, codes, take, nat_eq}
 use Rattle.std.specs.List.{ends_with}
 use Rattle.std.specs.Io.KnownBytes.{Appends}
 use Rattle.zw_base.specs.Faults.{Rose}
@@ -60,8 +60,14 @@ IsDue words files status out line = IsCommandDue (command_of words) files status
 abbrev pub IsFront : List ℕ → List ℕ → Type 0
 IsFront front bytes = (n : ℕ) × (front ≡ take n bytes)
 
--- the tree failed: status 7, its line, and nothing is written
-pub record IsTreeFault (files : List Handed) (status : ℕ) (out line : List ℕ) : Type 0 where
+-- the command loads a file
+abbrev pub IsLoadDue : Option CommandLine → Type 0
+IsLoadDue None = ⊥
+IsLoadDue (Some (Build root)) = ends_with nat_eq root (codes ".zig") ≡ true
+
+-- the tree failed as a file was to be loaded: status 7, its line, and nothing is written
+pub record IsTreeFault (words : List (List ℕ)) (files : List Handed) (status : ℕ) (out line : List ℕ) : Type 0 where
+  pub asked : IsLoadDue (command_of words)
   pub files_are : files ≡ []
   pub status_is : status ≡ 7
   pub out_is : out ≡ []
@@ -78,7 +84,7 @@ pub record IsOutFault (words : List (List ℕ)) (files : List Handed) (status : 
 -- an end that was written whole
 abbrev pub IsWhole : List (List ℕ) → List Handed → ℕ → List ℕ → List ℕ → Type 0
 IsWhole words files status out line =
-    IsDue words files status out line ⊎ IsTreeFault files status out line ⊎ IsOutFault words files status out line
+    IsDue words files status out line ⊎ IsTreeFault words files status out line ⊎ IsOutFault words files status out line
 
 -- Status 10 or 11: of an end that was to be written whole, a front of its bytes and a front of its line were, or nothing
 -- was written at all.

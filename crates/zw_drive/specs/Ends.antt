@@ -1,5 +1,5 @@
 -- How the parts of a command end: by cases on what each answers.
-use Rattle.std.specs.Prelude.{◌≡◌, ◌⊎◌, ℕ, Bool, true, false, List, [], ◌∷◌, ◌++◌, Result, Ok, Err, Option, Vec}
+use Rattle.std.specs.Prelude.{◌≡◌, ◌⊎◌, ℕ, Bool, true, false, List, [], ◌∷◌, ◌++◌, Result, Ok, Err, Option, Some, Vec}
 use Rattle.std.specs.Io.KnownBytes.{Appends}
 use Rattle.std.specs.declared.alloc.Global.{Global}
 use Rattle.zw_base.specs.declared.files.Answer.{Answer}
@@ -7,7 +7,8 @@ use Rattle.zw_base.specs.declared.files.Answer.TheVariants.{Bytes}
 use Rattle.zw_base.specs.declared.files.Handed.{Handed}
 use Rattle.zw_base.specs.declared.stop.Refused.{Refused}
 use Rattle.zw_base.specs.declared.stop.Refused.TheVariants as refused
-use Rattle.zw_drive.specs.Due.{IsAnswerDue, IsBuildDue, IsFront}
+use Rattle.zw_drive.specs.Commands.{Build}
+use Rattle.zw_drive.specs.Due.{IsAnswerDue, IsBuildDue, IsLoadDue, IsFront}
 use Rattle.zw_drive.specs.Lines.{IsNamed, stop_line, tree_fault_line, out_fault_line}
 use Rattle.zw_drive.specs.Meaning.{Means, Builds, IsUnbuilt}
 use Rattle.zw_drive.specs.Stops.{at_start}
@@ -71,7 +72,7 @@ WritesText text old new result = (out : List ℕ) × Appends old new out × Text
 abbrev pub BuildEnds : List ℕ → List Handed → List ℕ → Result (Unit {0}) BuildErr → Type 0
 BuildEnds root files out (Ok x) = IsBuildDue root files 0 out []
 BuildEnds root files out (Err (build.Stop stop)) = (out ≡ []) × IsNamed stop.kind × IsBuildDue root files 1 [] (stop_line root stop)
-BuildEnds root files out (Err build.TreeFault) = (out ≡ []) × (files ≡ [])
+BuildEnds root files out (Err build.TreeFault) = (out ≡ []) × (files ≡ []) × IsLoadDue (Some (Build root))
 BuildEnds root files out (Err build.OutFault) = (due : List ℕ) × IsBuildDue root files 0 due [] × IsFront out due
 BuildEnds root files out (Err build.Oom) = (out ≡ []) ⊎ ((due : List ℕ) × IsBuildDue root files 0 due [] × IsFront out due)
 

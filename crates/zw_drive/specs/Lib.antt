@@ -9,3 +9,4 @@ pub mod Meaning
 pub mod Due
 pub mod Ends
 pub mod Lowering
+pub mod Laws

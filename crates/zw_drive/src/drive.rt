@@ -1,7 +1,6 @@
 // The call that the program makes.
-ghost use Rattle.std.specs.Prelude.{◌≡◌, ◌≢◌, ℕ, List, [], ◌∷◌};
-ghost use Rattle.zw_base.specs.declared.files.Handed.{Handed};
-ghost use Rattle.zw_drive.specs.Due.{Serves, IsBlamed, IsDue};
+ghost use Rattle.std.specs.Prelude.{◌≡◌, ◌≢◌, [], ◌∷◌};
+ghost use Rattle.zw_drive.specs.Due.{Serves, IsBlamed};
 ghost use Rattle.zw_drive.specs.Ends.{code_of, Says, Reports, HasNamedStop};
 
 use crate::build::{BuildErr, build};
@@ -89,8 +88,3 @@ fn say<D: Sink>(diag: &mut D, own: Status, line: &[u8]) -> Status
         Err(PutErr::Oom) => Status::OutOfMemory,
     }
 }
-
-/// No two statuses and no two lines are due for the same words and files.
-pub fn one_due()
-    ensures { (words : List (List ℕ)) (files : List Handed) (status other : ℕ) (out more line another : List ℕ) → IsDue words files status out line → IsDue words files other more another → (status ≡ other) × (line ≡ another) }
-{}

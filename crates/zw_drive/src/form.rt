@@ -7,8 +7,6 @@ ghost use Rattle.zw_drive.specs.Form.{HasForm, IsFunctionOf, IsRefusal, IsSound}
 
 pub mod names;
 pub mod syntax;
-#[cfg(test)]
-mod tests;
 
 use crate::stops::{NOT_BUILT, at_start};
 use names::resolve;

@@ -7,10 +7,12 @@ mod command;
 mod compile;
 mod drive;
 mod form;
+mod laws;
 mod lines;
 mod lowering;
 mod status;
 mod stops;
 
-pub use drive::{one_due, zig};
+pub use drive::zig;
 pub use form::one_function;
+pub use laws::{one_due, sessions_stay_ended};
