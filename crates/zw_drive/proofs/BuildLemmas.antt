@@ -1,5 +1,5 @@
 -- Building a tree ends as its parts end.
-use Rattle.std.proofs.Common.{◌≡◌, ℕ, ◌≤◌, Bool, true, List, [], ◌∷◌, ◌++◌, Option, Some, None, Result, Ok, Err, Vec, refl, sym, ◌∙◌, ap, subst, inl, inr, arith, nat_eq, codes, MatchBool, lit≤}
+use Rattle.std.proofs.Common.{◌≡◌, ℕ, ◌≤◌, Bool, true, List, [], ◌∷◌, ◌++◌, Option, Some, None, Result, Ok, Err, Vec, refl, sym, ◌∙◌, ap, subst, inl, inr, arith, nat_eq, codes, MatchBool, lit≤, length}
 use Rattle.std.proofs.lemmas.List.{append-nil}
 use Rattle.std.specs.List.{ends_with}
 use Rattle.std.specs.Io.KnownBytes.{Appends}
@@ -12,6 +12,7 @@ use Rattle.zw_drive.specs.Ends.{Adds, LoadEnds, WritesText, WritesTree, BuildEnd
 use Rattle.zw_drive.specs.Lines.{IsNamed, stop_line}
 use Rattle.zw_drive.specs.Meaning.{Builds, IsUnbuilt}
 use Rattle.zw_drive.specs.Stops.{at_start}
+use Rattle.zw_drive.specs.declared.build.TheConstants.{FILE_LIMIT}
 use Rattle.zw_drive.specs.declared.build.BuildErr.{BuildErr}
 use Rattle.zw_drive.specs.declared.build.BuildErr.TheVariants as build
 use Rattle.zw_drive.specs.declared.stops.TheConstants.{IMPORT_PATH, NOT_BUILT}
@@ -35,34 +36,34 @@ abbrev pub pair_of : List ℕ → Answer → List Handed
 pair_of root answer = record { path = root; answer = answer } ∷ []
 
 -- a module of the text is due
-pub due_module : (root text out : List ℕ) → IsZig root → Builds text out → IsBuildDue root (pair_of root (Bytes text)) 0 out []
-due_module root text out zig builds =
-    due_loaded root (pair_of root (Bytes text)) 0 out [] zig (Bytes text, refl, inl (builds, record { status_is = refl; line_is = refl }))
+pub due_module : (root text out : List ℕ) → IsZig root → length text ≤ FILE_LIMIT → Builds text out → IsBuildDue root (pair_of root (Bytes text)) 0 out []
+due_module root text out zig fits builds =
+    due_loaded root (pair_of root (Bytes text)) 0 out [] zig (Bytes text, refl, record { fits = fits; due = inl (builds, record { status_is = refl; line_is = refl }) })
 
 -- the stop of a text that isn't of the form is due
-pub due_unbuilt : (root text : List ℕ) (stop : Stop) → IsZig root → stop ≡ at_start NOT_BUILT → IsUnbuilt text → IsBuildDue root (pair_of root (Bytes text)) 1 [] (stop_line root stop)
-due_unbuilt root text stop zig is unbuilt =
-    due_loaded root (pair_of root (Bytes text)) 1 [] (stop_line root stop) zig (Bytes text, refl, inr (unbuilt, record { status_is = refl; out_is = refl; line_is = ap (stop_line root) is }))
+pub due_unbuilt : (root text : List ℕ) (stop : Stop) → IsZig root → length text ≤ FILE_LIMIT → stop ≡ at_start NOT_BUILT → IsUnbuilt text → IsBuildDue root (pair_of root (Bytes text)) 1 [] (stop_line root stop)
+due_unbuilt root text stop zig fits is unbuilt =
+    due_loaded root (pair_of root (Bytes text)) 1 [] (stop_line root stop) zig (Bytes text, refl, record { fits = fits; due = inr (unbuilt, record { status_is = refl; out_is = refl; line_is = ap (stop_line root) is }) })
 
 unbuilt_named : (stop : Stop) → stop ≡ at_start NOT_BUILT → IsNamed stop.kind
 unbuilt_named stop is = subst (λ (s : Stop). IsNamed s.kind) (sym is) (lit≤ tt, lit≤ tt)
 
 -- the text of a root was built
-pub writes_text : (root : List ℕ) (old new : List Handed) (before after : Option (List ℕ)) (text : List ℕ) (result : Result (Unit {0}) BuildErr) → IsZig root → Adds old new root (Bytes text) → WritesText text before after result → WritesTree root old new before after result
+pub writes_text : (root : List ℕ) (old new : List Handed) (before after : Option (List ℕ)) (text : List ℕ) (result : Result (Unit {0}) BuildErr) → IsZig root → Adds old new root (Bytes text) × (length text ≤ FILE_LIMIT) → WritesText text before after result → WritesTree root old new before after result
 writes_text root old new before after text (Ok x) zig adds w =
-    record { files = pair_of root (Bytes text); out = w.0; loads = adds; writes = w.1; ends = due_module root text w.0 zig w.2 }
+    record { files = pair_of root (Bytes text); out = w.0; loads = adds.0; writes = w.1; ends = due_module root text w.0 zig adds.1 w.2 }
 writes_text root old new before after text (Err (build.Stop stop)) zig adds w =
-    record { files = pair_of root (Bytes text); out = w.0; loads = adds; writes = w.1; ends = (w.2.0, unbuilt_named stop w.2.1, due_unbuilt root text stop zig w.2.1 w.2.2) }
+    record { files = pair_of root (Bytes text); out = w.0; loads = adds.0; writes = w.1; ends = (w.2.0, unbuilt_named stop w.2.1, due_unbuilt root text stop zig adds.1 w.2.1 w.2.2) }
 writes_text root old new before after text (Err build.TreeFault) zig adds w = absurd w.2
 writes_text root old new before after text (Err build.OutFault) zig adds w =
-    record { files = pair_of root (Bytes text); out = w.0; loads = adds; writes = w.1; ends = (w.2.0, due_module root text w.2.0 zig w.2.1, w.2.2) }
+    record { files = pair_of root (Bytes text); out = w.0; loads = adds.0; writes = w.1; ends = (w.2.0, due_module root text w.2.0 zig adds.1 w.2.1, w.2.2) }
 writes_text root old new before after text (Err build.Oom) zig adds w =
     record {
       files = pair_of root (Bytes text);
       out = w.0;
-      loads = adds;
+      loads = adds.0;
       writes = w.1;
-      ends = elim w.2 [ inl e ↦ inl e | inr h ↦ inr (h.0, due_module root text h.0 zig h.1, h.2) ];
+      ends = elim w.2 [ inl e ↦ inl e | inr h ↦ inr (h.0, due_module root text h.0 zig adds.1 h.1, h.2) ];
     }
 
 -- the load of a root gave no text

@@ -20,7 +20,11 @@ one_stop root kind s t out out' line line' h k = (h.status_is ∙ sym k.status_i
 one_module : (s t : ℕ) (line line' : List ℕ) → IsModule s line → IsModule t line' → IsSame s t line line'
 one_module s t line line' h k = (h.status_is ∙ sym k.status_is, h.line_is ∙ sym k.line_is)
 
-one_text : (root text : List ℕ) (s t : ℕ) (out out' line line' : List ℕ) → IsAnswerDue root (Bytes text) s out line → IsAnswerDue root (Bytes text) t out' line' → IsSame s t line line'
+-- a text that is built, or isn't
+abbrev pub IsChosen : List ℕ → List ℕ → ℕ → List ℕ → List ℕ → Type 0
+IsChosen root text status out line = (Builds text out × IsModule status line) ⊎ (IsUnbuilt text × IsStop root NOT_BUILT status out line)
+
+one_text : (root text : List ℕ) (s t : ℕ) (out out' line line' : List ℕ) → IsChosen root text s out line → IsChosen root text t out' line' → IsSame s t line line'
 one_text root text s t out out' line line' (inl h) (inl k) = one_module s t line line' h.1 k.1
 one_text root text s t out out' line line' (inl h) (inr k) = absurd (k.0 h.0.means.function h.0.means.form)
 one_text root text s t out out' line line' (inr h) (inl k) = absurd (h.0 k.0.means.function k.0.means.form)
@@ -29,7 +33,7 @@ one_text root text s t out out' line line' (inr h) (inr k) = one_stop root NOT_B
 one_answer : (root : List ℕ) (answer : Answer) (s t : ℕ) (out out' line line' : List ℕ) → IsAnswerDue root answer s out line → IsAnswerDue root answer t out' line' → IsSame s t line line'
 one_answer root Absent s t out out' line line' h k = one_stop root FILE_ABSENT s t out out' line line' h k
 one_answer root TooLong s t out out' line line' h k = one_stop root FILE_LENGTH s t out out' line line' h k
-one_answer root (Bytes text) s t out out' line line' h k = one_text root text s t out out' line line' h k
+one_answer root (Bytes text) s t out out' line line' h k = one_text root text s t out out' line line' h.due k.due
 
 first_answer : List Handed → Answer → Answer
 first_answer [] a = a

@@ -1,6 +1,6 @@
 -- What is due: for the words of a command line and what the tree handed over, the status, the bytes to the output and
 -- the line to the diagnostics. A command is one case, and so is a stop. This project's own.
-use Rattle.std.specs.Prelude.{◌≡◌, ◌⊎◌, ℕ, ◌<◌, ◌≤◌, List, [], ◌∷◌, ◌++◌, Option, Some, None, Contains, true, MatchBool, codes, take, nat_eq}
+use Rattle.std.specs.Prelude.{◌≡◌, ◌⊎◌, ℕ, ◌<◌, ◌≤◌, List, [], ◌∷◌, ◌++◌, Option, Some, None, Contains, true, MatchBool, codes, length, take, nat_eq}
 use Rattle.std.specs.List.{ends_with}
 use Rattle.std.specs.Io.KnownBytes.{Appends}
 use Rattle.zw_base.specs.Faults.{Rose}
@@ -13,6 +13,7 @@ use Rattle.zw_drive.specs.Lines.{usage_line, tree_fault_line, out_fault_line, st
 use Rattle.zw_drive.specs.Meaning.{Builds, IsUnbuilt}
 use Rattle.zw_drive.specs.Stops.{at_start}
 use Rattle.zw_drive.specs.declared.stops.TheConstants.{IMPORT_PATH, FILE_ABSENT, FILE_LENGTH, NOT_BUILT}
+use Rattle.zw_drive.specs.declared.build.TheConstants.{FILE_LIMIT}
 
 -- the root's stop is due: status 1, its line, and nothing to the output
 pub record IsStop (root : List ℕ) (kind : StopKind) (status : ℕ) (out line : List ℕ) : Type 0 where
@@ -25,11 +26,16 @@ pub record IsModule (status : ℕ) (line : List ℕ) : Type 0 where
   pub status_is : status ≡ 0
   pub line_is : line ≡ []
 
+-- what is due for a text, which is no longer than a file may be
+pub record IsTextDue (root text : List ℕ) (status : ℕ) (out line : List ℕ) : Type 0 where
+  pub fits : length text ≤ FILE_LIMIT
+  pub due : (Builds text out × IsModule status line) ⊎ (IsUnbuilt text × IsStop root NOT_BUILT status out line)
+
 -- what is due for an answer to the load of the root
 abbrev pub IsAnswerDue : List ℕ → Answer → ℕ → List ℕ → List ℕ → Type 0
 IsAnswerDue root Absent status out line = IsStop root FILE_ABSENT status out line
 IsAnswerDue root TooLong status out line = IsStop root FILE_LENGTH status out line
-IsAnswerDue root (Bytes text) status out line = (Builds text out × IsModule status line) ⊎ (IsUnbuilt text × IsStop root NOT_BUILT status out line)
+IsAnswerDue root (Bytes text) status out line = IsTextDue root text status out line
 
 -- the tree handed over the root and nothing else
 abbrev pub IsRootDue : List ℕ → List Handed → ℕ → List ℕ → List ℕ → Type 0

@@ -1,5 +1,5 @@
 -- How the parts of a command end: by cases on what each answers.
-use Rattle.std.specs.Prelude.{◌≡◌, ◌⊎◌, ℕ, Bool, true, false, List, [], ◌∷◌, ◌++◌, Result, Ok, Err, Option, Some, Vec}
+use Rattle.std.specs.Prelude.{◌≡◌, ◌⊎◌, ℕ, Bool, true, false, List, [], ◌∷◌, ◌++◌, ◌≤◌, length, Result, Ok, Err, Option, Some, Vec}
 use Rattle.std.specs.Io.KnownBytes.{Appends}
 use Rattle.std.specs.declared.alloc.Global.{Global}
 use Rattle.zw_base.specs.declared.files.Answer.{Answer}
@@ -12,6 +12,7 @@ use Rattle.zw_drive.specs.Due.{IsAnswerDue, IsBuildDue, IsLoadDue, IsFront}
 use Rattle.zw_drive.specs.Lines.{IsNamed, stop_line, tree_fault_line, out_fault_line}
 use Rattle.zw_drive.specs.Meaning.{Means, Builds, IsUnbuilt}
 use Rattle.zw_drive.specs.Stops.{at_start}
+use Rattle.zw_drive.specs.declared.build.TheConstants.{FILE_LIMIT}
 use Rattle.zw_drive.specs.declared.build.BuildErr.{BuildErr}
 use Rattle.zw_drive.specs.declared.build.BuildErr.TheVariants as build
 use Rattle.zw_drive.specs.declared.status.Status.{Status}
@@ -50,7 +51,7 @@ Adds old new root answer = new ≡ old ++ record { path = root; answer = answer 
 
 -- how the load of the root ends
 abbrev pub LoadEnds : List ℕ → List Handed → List Handed → Result (Vec ℕ Global) BuildErr → Type 0
-LoadEnds root old new (Ok text) = Adds old new root (Bytes text.items)
+LoadEnds root old new (Ok text) = Adds old new root (Bytes text.items) × (length text.items ≤ FILE_LIMIT)
 LoadEnds root old new (Err (build.Stop stop)) = (answer : Answer) × Adds old new root answer × IsNamed stop.kind × IsAnswerDue root answer 1 [] (stop_line root stop)
 LoadEnds root old new (Err build.TreeFault) = new ≡ old
 LoadEnds root old new (Err build.OutFault) = ⊥

@@ -16,3 +16,6 @@ mod stops;
 pub use drive::zig;
 pub use form::one_function;
 pub use laws::{one_due, sessions_stay_ended};
+
+#[cfg(test)]
+mod tests;

@@ -9,5 +9,6 @@ pub mod MachineLasts
 pub mod Calls
 pub mod SumModuleLaws
 pub mod Computing
-pub mod SumAgrees
 pub mod Writes
+pub mod ShortestNumbers
+pub mod Shortest

@@ -4,7 +4,7 @@ use Rattle.zw_base.specs.declared.outside.PutErr.{PutErr}
 use Rattle.zw_base.specs.declared.outside.PutErr.TheVariants as put
 use Rattle.zw_wasm.proofs.Encodes.{encodes}
 use Rattle.zw_wasm.specs.Fits.{Fits}
-use Rattle.zw_wasm.specs.Writing.{IsSpelled, WritesSpelling}
+use Rattle.zw_wasm.specs.Writing.{WritesSpelling}
 use Rattle.zw_wasm.specs.declared.module.Module.{Module}
 
 -- its shortest spelling is a spelling, whatever the sink answered

@@ -33,3 +33,11 @@ pub fn longer_numbers()
 pub fn shortest_module()
     ensures { (m : Module) → IsWellFormed m → Fits m → ModuleBytes m (spelling m) }
 {}
+
+/// A module that has bytes is well formed and fits. So its shortest spelling spells it too, and no bytes of it are fewer.
+pub fn no_shorter_module()
+    ensures well_formed { (m : Module) (bytes : List ℕ) → ModuleBytes m bytes → IsWellFormed m }
+    ensures fits { (m : Module) (bytes : List ℕ) → ModuleBytes m bytes → Fits m }
+    ensures spelled { (m : Module) (bytes : List ℕ) → ModuleBytes m bytes → ModuleBytes m (spelling m) }
+    ensures shortest { (m : Module) (bytes : List ℕ) → ModuleBytes m bytes → length (spelling m) ≤ length bytes }
+{}

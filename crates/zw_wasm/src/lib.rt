@@ -13,7 +13,7 @@ mod writing;
 pub use execution::{
     bodies_are_typed, module_calls_stay_ended, sequences_compose, sum_modules_are_right,
 };
-pub use laws::{longer_numbers, one_number, shortest_module, shortest_number};
+pub use laws::{longer_numbers, no_shorter_module, one_number, shortest_module, shortest_number};
 pub use module::{
     CodeBody, DataSegment, Element, ExportDef, FuncImport, FuncType, GlobalDef, Instr, Limits,
     Module, ValType,
