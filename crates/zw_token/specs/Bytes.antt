@@ -1,5 +1,5 @@
 -- The kinds of bytes that tokens are made of.
-use Rattle.std.specs.Prelude.{ℕ, Bool, ◌||◌, ◌==◌, List, [], ◌∷◌, false}
+use Rattle.std.specs.Prelude.{ℕ, Bool, ◌&&◌, ◌||◌, ◌==◌, List, [], ◌∷◌, false}
 use Rattle.std.specs.Char.{is_ascii_alphabetic, is_ascii_digit}
 
 -- blank, tab, line feed or carriage return
@@ -18,3 +18,14 @@ is_name_byte b = is_name_start b || is_ascii_digit b
 abbrev pub starts_word : List ℕ → Bool
 starts_word [] = false
 starts_word (b ∷ bs) = is_name_start b
+
+-- a number begins here
+abbrev pub starts_number : List ℕ → Bool
+starts_number [] = false
+starts_number (b ∷ bs) = is_ascii_digit b
+
+-- `.` and a digit stand here
+abbrev pub starts_fraction : List ℕ → Bool
+starts_fraction [] = false
+starts_fraction (b ∷ []) = false
+starts_fraction (b ∷ c ∷ bs) = b == 46 && is_ascii_digit c

@@ -1,8 +1,7 @@
 -- The names that stand for types and values, and those of types that aren't in the profile.
-use Rattle.std.specs.Prelude.{ℕ, ◌⊎◌, Bool, true, false, ◌&&◌, ◌||◌, ◌==◌, IsTrue, List, [], ◌∷◌, map, if◌then◌else◌}
-use Rattle.std.specs.List.{list_all}
-use Rattle.std.specs.Char.{is_ascii_digit}
+use Rattle.std.specs.Prelude.{ℕ, ◌⊎◌, Bool, false, ◌&&◌, ◌||◌, ◌==◌, IsTrue, List, [], ◌∷◌, map}
 use Rattle.zw_token.specs.declared.names.TheConstants.{PRIMITIVE_NAMES, REFUSED_NAMES}
+use Rattle.zw_token.specs.Numbers.{is_decimal}
 use Rattle.zw_token.specs.Tables.{IsIn}
 
 abbrev pub primitive_names : List (List ℕ)
@@ -10,15 +9,6 @@ primitive_names = map (λ text. text.now) PRIMITIVE_NAMES
 
 abbrev pub refused_names : List (List ℕ)
 refused_names = map (λ text. text.now) REFUSED_NAMES
-
-abbrev pub is_empty : List ℕ → Bool
-is_empty [] = true
-is_empty (d ∷ digits) = false
-
--- a decimal number without a leading zero, or `0`
-abbrev pub is_decimal : List ℕ → Bool
-is_decimal [] = false
-is_decimal (d ∷ digits) = if d == 48 then is_empty digits else list_all is_ascii_digit (d ∷ digits)
 
 -- `i` or `u` and a decimal number
 abbrev pub is_sized_name : List ℕ → Bool

@@ -1,5 +1,7 @@
--- The token list of a text. Literals, comments and builtins aren't in it yet: a text that has them has no list.
+-- The token list of a text. Comments, builtins, and literals other than decimal numbers aren't in it yet: a text that has
+-- them has no list.
 use Rattle.std.specs.Prelude.{◌≡◌, ℕ, ◌+◌, ◌<◌, ◌≤◌, ◌⊎◌, IsTrue, List, [], ◌∷◌, length, take, drop, slice_get, slice_index, nat_eq, Some, if◌then◌else◌}
+use Rattle.std.specs.Char.{is_ascii_digit}
 use Rattle.std.specs.List.{list_all, starts_with}
 use Rattle.zw_base.specs.declared.stop.Refused.{Refused}
 use Rattle.zw_base.specs.declared.stop.Refused.TheVariants as refused
@@ -8,7 +10,8 @@ use Rattle.zw_base.specs.declared.stop.StopKind.TheVariants.{Error}
 use Rattle.zw_token.specs.declared.token.Token.{Token}
 use Rattle.zw_token.specs.declared.token.TokenKind.{TokenKind}
 use Rattle.zw_token.specs.declared.token.TokenKind.TheVariants.{Name, Quoted, Builtin, Number, Character, Text, LineText, Keyword, Sign, End}
-use Rattle.zw_token.specs.Bytes.{is_white, is_name_start, is_name_byte}
+use Rattle.zw_token.specs.Bytes.{is_white, is_name_start, is_name_byte, starts_fraction}
+use Rattle.zw_token.specs.Numbers.{is_decimal}
 use Rattle.zw_token.specs.Tables.{keywords, refused_keywords, signs, IsIn}
 
 -- a letter or `_`, then letters, digits and `_`
@@ -16,34 +19,40 @@ abbrev pub IsWord : List ℕ → Type 0
 IsWord [] = ⊥
 IsWord (b ∷ bytes) = IsTrue (is_name_start b) × IsTrue (list_all is_name_byte bytes)
 
+-- a digit, then letters, digits and `_`
+abbrev pub IsNumeral : List ℕ → Type 0
+IsNumeral [] = ⊥
+IsNumeral (b ∷ bytes) = IsTrue (is_ascii_digit b) × IsTrue (list_all is_name_byte bytes)
+
 -- what may be a token: of what a text begins with, the longest of these is taken
 abbrev pub IsForm : List ℕ → Type 0
-IsForm bytes = IsWord bytes ⊎ IsIn signs bytes
+IsForm bytes = IsWord bytes ⊎ IsNumeral bytes ⊎ IsIn signs bytes
 
 -- `//`, with which a comment begins
 abbrev pub BeginsComment : List ℕ → Type 0
 BeginsComment rest = IsTrue (starts_with nat_eq rest (47 ∷ 47 ∷ []))
 
--- these bytes are a token of this kind; the kinds that nothing is of yet are those of literals and builtins
+-- these bytes are a token of this kind; the kinds that nothing is of yet are those of other literals and builtins
 abbrev pub IsOfKind : TokenKind → List ℕ → Type 0
 IsOfKind Name bytes = IsWord bytes × (¬ IsIn keywords bytes) × (¬ IsIn refused_keywords bytes)
 IsOfKind (Keyword n) bytes = (slice_get keywords n ≡ Some bytes) × (¬ IsIn refused_keywords bytes)
 IsOfKind (Sign n) bytes = slice_get signs n ≡ Some bytes
 IsOfKind Quoted bytes = ⊥
 IsOfKind Builtin bytes = ⊥
-IsOfKind Number bytes = ⊥
+IsOfKind Number bytes = IsTrue (is_decimal bytes)
 IsOfKind Character bytes = ⊥
 IsOfKind Text bytes = ⊥
 IsOfKind LineText bytes = ⊥
 IsOfKind End bytes = ⊥
 
--- what is left of a text begins with a token of this kind, of n bytes: no longer front of it may be a token, and no
--- comment stands there
+-- what is left of a text begins with a token of this kind, of n bytes: no longer front of it may be a token, no comment
+-- stands there, and no number goes on as a float does
 pub record BeginsToken (rest : List ℕ) (kind : TokenKind) (n : ℕ) : Type 0 where
   pub within : n ≤ length rest
   pub of_kind : IsOfKind kind (take n rest)
   pub longest : (m : ℕ) → n < m → m ≤ length rest → ¬ IsForm (take m rest)
   pub no_comment : ¬ BeginsComment rest
+  pub no_fraction : kind ≡ Number → ¬ IsTrue (starts_fraction (drop n rest))
 
 -- the token stands in the text
 abbrev pub StandsIn : List ℕ → Token → Type 0

@@ -1,7 +1,7 @@
 // The kinds of bytes, and how many bytes of one kind a text begins with.
 ghost use Rattle.std.specs.Prelude.{◌≡◌};
 ghost use Rattle.std.specs.List.{prefix_len};
-ghost use Rattle.zw_token.specs.Bytes.{is_white, is_name_start, is_name_byte, starts_word};
+ghost use Rattle.zw_token.specs.Bytes.{is_white, is_name_start, is_name_byte, starts_word, starts_number, starts_fraction};
 
 /// Blank, tab, line feed or carriage return.
 #[tactic(auto, unfolding(crate::specs::Bytes::is_white))]
@@ -37,6 +37,26 @@ pub fn starts_word(rest: &[u8]) -> bool
     }
 }
 
+/// Whether a number begins here.
+pub fn starts_number(rest: &[u8]) -> bool
+    ensures { result ≡ starts_number rest.now }
+{
+    match rest {
+        [first, ..] => first.is_ascii_digit(),
+        [] => false,
+    }
+}
+
+/// Whether `.` and a digit stand here, with which a number goes on as a float.
+pub fn starts_fraction(rest: &[u8]) -> bool
+    ensures { result ≡ starts_fraction rest.now }
+{
+    match rest {
+        [b'.', digit, ..] => digit.is_ascii_digit(),
+        _ => false,
+    }
+}
+
 /// How many bytes of white space stand here.
 pub fn white_len(rest: &[u8]) -> usize
     ensures { result ≡ prefix_len is_white rest.now }
@@ -44,7 +64,7 @@ pub fn white_len(rest: &[u8]) -> usize
     rest.iter().take_while(|byte| is_white(**byte)).count()
 }
 
-/// How many bytes of a name stand here.
+/// How many letters, digits and `_` stand here.
 pub fn word_len(rest: &[u8]) -> usize
     ensures { result ≡ prefix_len is_name_byte rest.now }
 {

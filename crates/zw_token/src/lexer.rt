@@ -2,11 +2,12 @@
 ghost use Rattle.std.specs.Prelude.{◌≡◌, ℕ, All, ◌<◌, ◌≤◌, length, take, Some, IfSome, IfNone, IfOk, IfErr, IsTrue, List, slice_get, slice_index, false};
 ghost use Rattle.zw_token.specs.declared.token.Token.{Token};
 ghost use Rattle.zw_token.specs.declared.token.TokenKind.{TokenKind};
-ghost use Rattle.zw_token.specs.Bytes.{is_white, starts_word};
+ghost use Rattle.zw_token.specs.Bytes.{is_white, starts_word, starts_number};
 ghost use Rattle.zw_token.specs.Tables.{texts, NoLongerFront};
 ghost use Rattle.zw_token.specs.Tokens.{IsWord, IsOfKind, BeginsToken, IsGap, IsNext, LiesIn, Tokens, IsRefusal, not_built, start_of};
 
-use crate::bytes::{starts_word, white_len, word_len};
+use crate::bytes::{starts_fraction, starts_number, starts_word, white_len, word_len};
+use crate::numbers::is_decimal;
 use crate::tables::{KEYWORDS, REFUSED_KEYWORDS, SIGNS, has, place_of};
 use crate::{Token, TokenKind};
 use std::alloc::Global;
@@ -39,6 +40,21 @@ fn first_word(rest: &[u8]) -> Option<(TokenKind, usize)>
     let len = word_len(rest);
     let kind = word_kind(&rest[..len])?;
     Some((kind, len))
+}
+
+/// The token of a text that begins with a digit.
+fn first_number(rest: &[u8]) -> Option<(TokenKind, usize)>
+    requires { IsTrue (starts_number rest.now) }
+    ensures found { IfSome result (λ token. BeginsToken rest.now token.0 token.1) }
+    ensures none { IfNone result ((kind : TokenKind) (n : ℕ) → BeginsToken rest.now kind n → ⊥) }
+{
+    let len = word_len(rest);
+    let (number, after) = rest.split_at(len);
+    if is_decimal(number) && !starts_fraction(after) {
+        Some((TokenKind::Number, len))
+    } else {
+        None
+    }
 }
 
 /// How many bytes of the text are the bytes of `sign`: all or none.
@@ -74,9 +90,10 @@ fn longest_front(table: &[&str], rest: &[u8]) -> Option<(usize, usize)>
     if len == 0 { None } else { Some((place, len)) }
 }
 
-/// The token of a text that doesn't begin as a name does.
+/// The token of a text that begins neither as a name does nor with a digit.
 fn first_sign(rest: &[u8]) -> Option<(TokenKind, usize)>
-    requires { starts_word rest.now ≡ false }
+    requires no_word { starts_word rest.now ≡ false }
+    requires no_number { starts_number rest.now ≡ false }
     ensures found { IfSome result (λ token. BeginsToken rest.now token.0 token.1) }
     ensures none { IfNone result ((kind : TokenKind) (n : ℕ) → BeginsToken rest.now kind n → ⊥) }
 {
@@ -94,6 +111,8 @@ fn first_token(rest: &[u8]) -> Option<(TokenKind, usize)>
 {
     if starts_word(rest) {
         first_word(rest)
+    } else if starts_number(rest) {
+        first_number(rest)
     } else {
         first_sign(rest)
     }
@@ -147,7 +166,8 @@ fn next_token(text: &[u8], from: usize) -> Option<Token>
 
 /// The tokens of a text of the file with this number, the end of the text as the last. The text has at most
 /// 4,194,304 bytes. The only stop is error 36, at line 1 and column 1: the text has no token list, be it for
-/// literals, comments, builtins and keywords that aren't built yet.
+/// comments, builtins, keywords, or literals that aren't built yet. Of these, decimal numbers of digits alone are
+/// built; a number that goes on with a letter or `_`, has a leading zero, or is a float, isn't.
 pub fn tokens(alloc: Global, file: u32, text: &[u8]) -> Result<Vec<Token>, Refused>
     requires { length text.now ≤ 4194304 }
     ensures list { IfOk result (λ list. Tokens text.now list.items) }

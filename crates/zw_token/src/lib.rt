@@ -4,11 +4,13 @@
 mod bytes;
 mod lexer;
 mod names;
+mod numbers;
 mod tables;
 mod token;
 
 pub use lexer::{one_list, tokens};
 pub use names::{is_primitive_name, is_refused_name};
+pub use numbers::number_value;
 pub use tables::{KEYWORDS, SIGNS};
 pub use token::{Token, TokenKind};
 

@@ -1,9 +1,8 @@
 // The names that stand for types and values of the language, and those of types that aren't in the profile.
 ghost use Rattle.std.specs.Prelude.{◌≡◌, ◌↔◌, IsTrue};
-ghost use Rattle.std.specs.Char.{is_ascii_digit};
-ghost use Rattle.std.specs.List.{list_all};
-ghost use Rattle.zw_token.specs.Names.{is_decimal, is_sized_name, IsPrimitiveName, IsRefusedName};
+ghost use Rattle.zw_token.specs.Names.{is_sized_name, IsPrimitiveName, IsRefusedName};
 
+use crate::numbers::is_decimal;
 use crate::tables::has;
 
 // The names of primitive types and values, beside `u8`, `i32` and their like (Zig Language Reference 0.13.0,
@@ -43,24 +42,6 @@ const REFUSED_NAMES: [&str; 17] = [
     "c_ulonglong",
     "c_longdouble",
 ];
-
-// Whether all of these bytes are decimal digits.
-fn are_digits(bytes: &[u8]) -> bool
-    ensures { result ≡ list_all is_ascii_digit bytes.now }
-{
-    bytes.iter().all(|digit| digit.is_ascii_digit())
-}
-
-// Whether these are the digits of a decimal number without a leading zero, or `0`.
-fn is_decimal(digits: &[u8]) -> bool
-    ensures { result ≡ is_decimal digits.now }
-{
-    match digits {
-        [] => false,
-        [b'0', rest @ ..] => rest.is_empty(),
-        [_, ..] => are_digits(digits),
-    }
-}
 
 // Whether this is `u` or `i` and a decimal number.
 fn is_sized_name(name: &[u8]) -> bool

@@ -1,5 +1,7 @@
 // Tests of whole texts and of the tables. Expected values are worked out by hand from the language's rules.
-use crate::{KEYWORDS, SIGNS, Token, TokenKind, is_primitive_name, is_refused_name, tokens};
+use crate::{
+    KEYWORDS, SIGNS, Token, TokenKind, is_primitive_name, is_refused_name, number_value, tokens,
+};
 use std::process::Abort;
 use std::test::Fail;
 use zw_base::{Place, Refused, Stop, StopKind};
@@ -30,12 +32,20 @@ const FUNCTION_TOKENS: [(TokenKind, u32, u32); 21] = [
     (TokenKind::End, 50, 50),
 ];
 
-// Comments, numbers, literals, builtins, other bytes, and keywords that are refused.
-const WITHOUT_LIST: [&[u8]; 16] = [
+// Comments, numbers that aren't decimal ones of digits alone, other literals, builtins, other bytes, and keywords that
+// are refused.
+const WITHOUT_LIST: [&[u8]; 23] = [
     b"a // b",
     b"a\n//",
-    b"a 1",
     b"1a",
+    b"12ab",
+    b"0x1F",
+    b"1_000",
+    b"01",
+    b"a 007;",
+    b"1.5",
+    b"(0.0)",
+    b"1e5",
     b"\"a\"",
     b"'a'",
     b"@a",
@@ -93,6 +103,47 @@ fn the_longest_token_is_taken(rt: HostRuntime) -> Result<(), Fail> {
 }
 
 #[test]
+fn numbers_are_tokens(rt: HostRuntime) -> Result<(), Fail> {
+    let number = TokenKind::Number;
+    let dot = TokenKind::Sign(47);
+    let end = TokenKind::End;
+    for text in [b"0".as_slice(), b"10", b"4294967295", b"9876543210"] {
+        assert_eq!(rt; kinds_of(&rt, text)?.as_slice(), [number, end].as_slice());
+    }
+    assert_eq!(rt;
+        kinds_of(&rt, b"a + 1")?.as_slice(),
+        [TokenKind::Name, TokenKind::PLUS, number, end].as_slice()
+    );
+    assert_eq!(rt;
+        kinds_of(&rt, b"1..2 0-3")?.as_slice(),
+        [
+            number,
+            TokenKind::Sign(48),
+            number,
+            number,
+            TokenKind::MINUS,
+            number,
+            end
+        ]
+        .as_slice()
+    );
+    assert_eq!(rt;
+        kinds_of(&rt, b"1.x.2 a1")?.as_slice(),
+        [
+            number,
+            dot,
+            TokenKind::Name,
+            dot,
+            number,
+            TokenKind::Name,
+            end
+        ]
+        .as_slice()
+    );
+    Ok(())
+}
+
+#[test]
 fn white_space_stands_between_tokens(rt: HostRuntime) -> Result<(), Fail> {
     let expected = [TokenKind::Name, TokenKind::FN, TokenKind::End];
     for text in [b"\xEF\xBB\xBFa \tfn".as_slice(), b"\r\na\r\nfn\n"] {
@@ -126,6 +177,52 @@ fn other_texts_have_no_list(rt: HostRuntime) -> Result<(), Fail> {
         );
     }
     Ok(())
+}
+
+// The keyword or the sign of a kind.
+fn text_of(kind: TokenKind) -> Option<&'static str> {
+    match kind {
+        TokenKind::Keyword(number) => KEYWORDS.get(usize::from(number)).copied(),
+        TokenKind::Sign(number) => SIGNS.get(usize::from(number)).copied(),
+        _ => None,
+    }
+}
+
+#[test]
+fn the_constants_stand_in_the_tables(rt: HostRuntime) {
+    for (kind, text) in [
+        (TokenKind::EXPORT, "export"),
+        (TokenKind::EXTERN, "extern"),
+        (TokenKind::FN, "fn"),
+        (TokenKind::RETURN, "return"),
+        (TokenKind::PLUS, "+"),
+        (TokenKind::PLUS_PERCENT, "+%"),
+        (TokenKind::MINUS, "-"),
+        (TokenKind::COMMA, ","),
+        (TokenKind::SEMICOLON, ";"),
+        (TokenKind::COLON, ":"),
+        (TokenKind::L_PAREN, "("),
+        (TokenKind::R_PAREN, ")"),
+        (TokenKind::L_BRACE, "{"),
+        (TokenKind::R_BRACE, "}"),
+    ] {
+        assert_eq!(rt; text_of(kind), Some(text));
+    }
+}
+
+#[test]
+fn numbers_have_their_values(rt: HostRuntime) {
+    for (text, value) in [
+        (b"0".as_slice(), Some(0)),
+        (b"7", Some(7)),
+        (b"10", Some(10)),
+        (b"4294967295", Some(4_294_967_295)),
+        (b"170141183460469231731687303715884105727", Some(i128::MAX)),
+        (b"170141183460469231731687303715884105728", None),
+        (b"1701411834604692317316873037158841057270", None),
+    ] {
+        assert_eq!(rt; number_value(text), value);
+    }
 }
 
 #[test]

@@ -10,7 +10,7 @@ pub enum TokenKind {
     Quoted,
     /// `@` and a name.
     Builtin,
-    /// A digit, then letters, digits and `_`.
+    /// A decimal number: `0`, or digits of which the first isn't `0`.
     Number,
     /// A character between `'`.
     Character,
@@ -27,12 +27,18 @@ pub enum TokenKind {
 impl TokenKind {
     /// `export`
     pub const EXPORT: TokenKind = TokenKind::Keyword(12);
+    /// `extern`
+    pub const EXTERN: TokenKind = TokenKind::Keyword(13);
     /// `fn`
     pub const FN: TokenKind = TokenKind::Keyword(14);
     /// `return`
     pub const RETURN: TokenKind = TokenKind::Keyword(23);
+    /// `+`
+    pub const PLUS: TokenKind = TokenKind::Sign(14);
     /// `+%`
     pub const PLUS_PERCENT: TokenKind = TokenKind::Sign(16);
+    /// `-`
+    pub const MINUS: TokenKind = TokenKind::Sign(21);
     /// `,`
     pub const COMMA: TokenKind = TokenKind::Sign(52);
     /// `;`
