@@ -10,7 +10,7 @@ mod token;
 
 pub use lexer::{one_list, tokens};
 pub use names::{is_primitive_name, is_refused_name};
-pub use numbers::number_value;
+pub use numbers::{is_decimal, number_value};
 pub use tables::{KEYWORDS, SIGNS};
 pub use token::{Token, TokenKind};
 

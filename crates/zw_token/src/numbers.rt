@@ -16,8 +16,8 @@ fn are_digits(bytes: &[u8]) -> bool
     bytes.iter().all(|digit| digit.is_ascii_digit())
 }
 
-// Whether these are the digits of a decimal number without a leading zero, or `0`.
-pub(crate) fn is_decimal(digits: &[u8]) -> bool
+/// Whether these are the digits of a decimal number without a leading zero, or `0`.
+pub fn is_decimal(digits: &[u8]) -> bool
     ensures { result ≡ is_decimal digits.now }
 {
     match digits {

@@ -1,0 +1,18 @@
+use Rattle.std.proofs.Common.{refl, sym, subst, ◌∙◌}
+use Rattle.zw_form.specs.Rules.{KeepsRules}
+use Rattle.zw_form.proofs.FormLemmas.{HasForm-no_syntax, HasForm-no_rules}
+use Rattle.zw_form.proofs.read.read_form.Goals as goal
+
+pub returns-in_default-clause-refused : goal.returns-in_default-clause-refused
+returns-in_default-clause-refused c =
+    let none = rw (c.in_default.is, c.deref.ensures.value) at c.in_ok-file.ensures.none in
+    rw c.not_built-in_default.ensures (refl, HasForm-no_syntax c.in-Ok.ensures.list none)
+
+pub returns-clause-refused : goal.returns-clause-refused
+returns-clause-refused c =
+    let syntax = rw (c.in-Some.is, c.deref.ensures.value) at c.in_ok-file.ensures.found in
+    let none = rw c.in-None.is at c.in_ok-program.ensures.none in
+    rw c.not_built-in-None.ensures (
+      refl,
+      HasForm-no_rules syntax.0 c.in-Ok.ensures.list syntax.1 (λ kept. none (subst KeepsRules (sym (c.as_slice.ensures ∙ syntax.2)) kept)),
+    )

@@ -1,0 +1,103 @@
+-- Trees: the files of the form that is built by now, as trees. A sum's terms may be calls, whose arguments are sums.
+use Rattle.std.specs.Prelude.{ℕ, ◌+◌, true, false, List, [], ◌∷◌, ◌++◌}
+use Rattle.std.specs.List.{flat_map}
+use Rattle.zw_form.specs.declared.source.Declaration.{Declaration}
+use Rattle.zw_form.specs.declared.source.Declaration.TheVariants as source
+use Rattle.zw_form.specs.declared.source.ExternFunction.{ExternFunction}
+use Rattle.zw_form.specs.declared.source.Operator.{Operator}
+use Rattle.zw_form.specs.declared.source.Step.{Step}
+use Rattle.zw_form.specs.declared.source.Step.TheVariants as step
+
+mutual
+  -- a term, and the operators behind it with a term each
+  pub data Sum : Type 0 where
+    Terms : (first : Term) (others : Operations) → Sum
+
+  pub data Operations : Type 0 where
+    NoMore : Operations
+    Then : (operator : Operator) (term : Term) (others : Operations) → Operations
+
+  -- a parameter by its name, a number, or the result of a call
+  pub data Term : Type 0 where
+    Parameter : (name : List ℕ) → Term
+    Number : (n : ℕ) → Term
+    Result : (callee : List ℕ) (args : Sums) → Term
+
+  pub data Sums : Type 0 where
+    NoSum : Sums
+    More : (sum : Sum) (others : Sums) → Sums
+
+-- a statement, which calls a function without a result
+pub record CallStatement : Type 0 where
+  pub callee : List ℕ
+  pub args : Sums
+
+-- what an exported function does: its statements in order, and then the sum that it returns
+pub record Body : Type 0 where
+  pub statements : List CallStatement
+  pub sum : Sum
+
+-- a declaration of a file
+pub data Tree : Type 0 where
+  Extern : (function : ExternFunction) → Tree
+  Export : (name : List ℕ) (params : List (List ℕ)) (body : Body) → Tree
+
+-- how many sums there are
+abbrev pub count_of : Sums → ℕ
+count_of NoSum = 0
+count_of (More sum others) = count_of others + 1
+
+-- The steps of a sum, in the order in which they are taken: operands before the operator, from left to right, and
+-- arguments before the call.
+abbrev mutual
+  pub sum_steps : Sum → List Step
+  sum_steps (Terms first others) = term_steps first ++ operation_steps others
+
+  pub operation_steps : Operations → List Step
+  operation_steps NoMore = []
+  operation_steps (Then operator term others) = term_steps term ++ (step.Operate operator ∷ operation_steps others)
+
+  pub term_steps : Term → List Step
+  term_steps (Parameter name) = step.Parameter name ∷ []
+  term_steps (Number n) = step.Number n ∷ []
+  term_steps (Result callee args) = args_steps args ++ step.Call (record { name = callee; args = count_of args; has_result = true }) ∷ []
+
+  pub args_steps : Sums → List Step
+  args_steps NoSum = []
+  args_steps (More sum others) = sum_steps sum ++ args_steps others
+
+-- The names of the functions that are called, in the order of the text: a function before those that its arguments call.
+abbrev mutual
+  pub sum_callees : Sum → List (List ℕ)
+  sum_callees (Terms first others) = term_callees first ++ operation_callees others
+
+  pub operation_callees : Operations → List (List ℕ)
+  operation_callees NoMore = []
+  operation_callees (Then operator term others) = term_callees term ++ operation_callees others
+
+  pub term_callees : Term → List (List ℕ)
+  term_callees (Parameter name) = []
+  term_callees (Number n) = []
+  term_callees (Result callee args) = callee ∷ args_callees args
+
+  pub args_callees : Sums → List (List ℕ)
+  args_callees NoSum = []
+  args_callees (More sum others) = sum_callees sum ++ args_callees others
+
+abbrev pub statement_steps : CallStatement → List Step
+statement_steps s = args_steps s.args ++ step.Call (record { name = s.callee; args = count_of s.args; has_result = false }) ∷ []
+
+abbrev pub statement_callees : CallStatement → List (List ℕ)
+statement_callees s = s.callee ∷ args_callees s.args
+
+abbrev pub body_steps : Body → List Step
+body_steps b = flat_map statement_steps b.statements ++ sum_steps b.sum
+
+abbrev pub body_callees : Body → List (List ℕ)
+body_callees b = flat_map statement_callees b.statements ++ sum_callees b.sum
+
+-- the declaration in steps
+abbrev pub declaration_of : Tree → Declaration
+declaration_of (Extern function) = source.Extern function
+declaration_of (Export name params body) =
+    source.Export (record { name = name; params = params; callees = body_callees body; steps = body_steps body })
