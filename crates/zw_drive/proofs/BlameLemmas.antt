@@ -1,5 +1,5 @@
 -- The status blames the object that failed.
-use Rattle.std.proofs.Common.{◌≡◌, ◌⊎◌, ℕ, ◌<◌, List, [], ◌∷◌, Option, Result, Ok, Err, refl, sym, ◌∙◌, ap, inl, inr, arith, true, lit<}
+use Rattle.std.proofs.Common.{◌≡◌, ◌⊎◌, ℕ, List, [], ◌∷◌, Option, Result, Ok, Err, sym, ◌∙◌, ap, inl, inr, arith, true, lit<}
 use Rattle.zw_base.specs.Faults.{Counts}
 use Rattle.zw_base.specs.declared.files.Handed.{Handed}
 use Rattle.zw_drive.specs.Due.{IsBlamed}

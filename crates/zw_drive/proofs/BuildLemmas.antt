@@ -1,5 +1,5 @@
 -- Building a tree ends as its parts end.
-use Rattle.std.proofs.Common.{◌≡◌, ℕ, ◌≤◌, Bool, true, List, [], ◌∷◌, ◌++◌, Option, Some, None, Result, Ok, Err, Vec, refl, sym, ◌∙◌, ap, subst, inl, inr, arith, nat_eq, codes, MatchBool, lit≤, length}
+use Rattle.std.proofs.Common.{◌≡◌, ℕ, ◌≤◌, Bool, true, List, [], ◌∷◌, Option, Some, None, Result, Ok, Err, refl, sym, ◌∙◌, ap, subst, inl, inr, nat_eq, codes, MatchBool, lit≤, length}
 use Rattle.std.proofs.lemmas.List.{append-nil}
 use Rattle.std.specs.List.{ends_with}
 use Rattle.std.specs.Io.KnownBytes.{Appends}
@@ -7,8 +7,8 @@ use Rattle.zw_base.specs.declared.files.Answer.{Answer}
 use Rattle.zw_base.specs.declared.files.Answer.TheVariants.{Bytes}
 use Rattle.zw_base.specs.declared.files.Handed.{Handed}
 use Rattle.zw_base.specs.declared.stop.Stop.{Stop}
-use Rattle.zw_drive.specs.Due.{IsRootDue, IsBuildDue, IsStop, IsModule}
-use Rattle.zw_drive.specs.Ends.{Adds, LoadEnds, WritesText, WritesTree, BuildEnds}
+use Rattle.zw_drive.specs.Due.{IsRootDue, IsBuildDue, IsStop}
+use Rattle.zw_drive.specs.Ends.{Adds, LoadEnds, WritesText, WritesTree}
 use Rattle.zw_drive.specs.Lines.{IsNamed, stop_line}
 use Rattle.zw_drive.specs.Meaning.{Builds, IsUnbuilt}
 use Rattle.zw_drive.specs.Stops.{at_start}

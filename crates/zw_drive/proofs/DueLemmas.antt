@@ -1,12 +1,12 @@
 -- No two statuses and no two lines are due for the same words and files.
-use Rattle.std.proofs.Common.{◌≡◌, ◌⊎◌, ℕ, Bool, true, false, List, [], ◌∷◌, Option, Some, None, refl, sym, ◌∙◌, ap, subst, inl, inr, codes, nat_eq, MatchBool}
+use Rattle.std.proofs.Common.{◌≡◌, ◌⊎◌, ℕ, Bool, true, false, List, [], ◌∷◌, Option, Some, None, sym, ◌∙◌, ap, subst, inl, inr, codes, nat_eq, MatchBool}
 use Rattle.std.specs.List.{ends_with}
 use Rattle.zw_base.specs.declared.files.Answer.{Answer}
 use Rattle.zw_base.specs.declared.files.Answer.TheVariants.{Bytes, Absent, TooLong}
 use Rattle.zw_base.specs.declared.files.Handed.{Handed}
 use Rattle.zw_base.specs.declared.stop.StopKind.{StopKind}
 use Rattle.zw_drive.specs.Commands.{CommandLine, Build, command_of}
-use Rattle.zw_drive.specs.Due.{IsStop, IsModule, IsAnswerDue, IsRootDue, IsBuildDue, IsCommandDue, IsUsage, IsDue}
+use Rattle.zw_drive.specs.Due.{IsStop, IsModule, IsAnswerDue, IsRootDue, IsCommandDue, IsDue}
 use Rattle.zw_drive.specs.Meaning.{Builds, IsUnbuilt}
 use Rattle.zw_drive.specs.declared.stops.TheConstants.{IMPORT_PATH, FILE_ABSENT, FILE_LENGTH, NOT_BUILT}
 
@@ -26,8 +26,8 @@ IsChosen root text status out line = (Builds text out × IsModule status line) �
 
 one_text : (root text : List ℕ) (s t : ℕ) (out out' line line' : List ℕ) → IsChosen root text s out line → IsChosen root text t out' line' → IsSame s t line line'
 one_text root text s t out out' line line' (inl h) (inl k) = one_module s t line line' h.1 k.1
-one_text root text s t out out' line line' (inl h) (inr k) = absurd (k.0 h.0.means.function h.0.means.form)
-one_text root text s t out out' line line' (inr h) (inl k) = absurd (h.0 k.0.means.function k.0.means.form)
+one_text root text s t out out' line line' (inl h) (inr k) = absurd (k.0 h.0.means.trees h.0.means.form)
+one_text root text s t out out' line line' (inr h) (inl k) = absurd (h.0 k.0.means.trees k.0.means.form)
 one_text root text s t out out' line line' (inr h) (inr k) = one_stop root NOT_BUILT s t out out' line line' h.1 k.1
 
 one_answer : (root : List ℕ) (answer : Answer) (s t : ℕ) (out out' line line' : List ℕ) → IsAnswerDue root answer s out line → IsAnswerDue root answer t out' line' → IsSame s t line line'

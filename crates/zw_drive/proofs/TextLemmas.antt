@@ -1,11 +1,10 @@
 -- Writing the module of a text ends as the sink answers.
-use Rattle.std.proofs.Common.{◌≡◌, ◌⊎◌, ℕ, List, [], take, Option, Ok, Err, refl, sym, subst, inl, inr}
+use Rattle.std.proofs.Common.{◌≡◌, ◌⊎◌, ℕ, List, [], take, Option, Err, refl, sym, subst, inl, inr}
 use Rattle.std.specs.Io.KnownBytes.{Appends}
 use Rattle.zw_base.specs.Outside.{AppendsFront}
 use Rattle.zw_wasm.specs.Spelling.{spelling}
 use Rattle.zw_wasm.specs.Writing.{IsSpelled}
 use Rattle.zw_wasm.specs.declared.module.Module.{Module}
-use Rattle.zw_drive.specs.Due.{IsFront}
 use Rattle.zw_drive.specs.Ends.{IsCompiled, WritesText}
 use Rattle.zw_drive.specs.Meaning.{Builds}
 use Rattle.zw_drive.specs.declared.build.BuildErr.TheVariants as build

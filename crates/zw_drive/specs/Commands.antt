@@ -1,5 +1,5 @@
 -- The words of a command line, and what they ask for. This project's own.
-use Rattle.std.specs.Prelude.{ℕ, Bool, ◌&&◌, not, List, [], ◌∷◌, Option, Some, None, codes, if◌then◌else◌, length, nat_eq, nat_lt}
+use Rattle.std.specs.Prelude.{ℕ, ◌&&◌, List, [], ◌∷◌, Option, Some, None, codes, if◌then◌else◌, length, nat_lt}
 use Rattle.std.specs.Str.{bytes_eq}
 use Rattle.zw_drive.specs.declared.command.Command.{Command}
 use Rattle.zw_drive.specs.declared.command.Command.TheVariants as code

@@ -1,12 +1,32 @@
--- What holds of sessions with a function and with a module alike.
-use Rattle.zw_session.specs.Bounds.{StaysEnded, SessionsStayEnded}
+-- What holds of sessions with a file and with a module alike, and which calls make a session.
+use Rattle.std.specs.Prelude.{◌≡◌, ℕ, ◌<◌, ◌^◌, pos, List, length, All, IsTrue, Some}
+use Rattle.zw_form.specs.Source.{Exported, export_named, source_fits, source_machine}
+use Rattle.zw_form.specs.Trees.{Tree}
+use Rattle.zw_session.specs.Bounds.{SessionsStayEnded}
+use Rattle.zw_session.specs.Sessions.{Scalar, Number, Call, AllFit}
 use Rattle.zw_wasm.specs.ModuleMachine.{module_machine}
 use Rattle.zw_wasm.specs.Signature.{View}
 use Rattle.zw_wasm.specs.declared.module.Module.{Module}
-use Rattle.zw_drive.specs.Source.{source_machine}
-use Rattle.zw_drive.specs.declared.form.syntax.SourceFunction.{SourceFunction}
 
--- A session that ended stays ended with the same record under a larger bound, at the function and at the module.
+-- A session that ended stays ended with the same record under a larger bound, at the file and at the module.
 pub record EndsAreKept : Type 0 where
-  pub source : (f : SourceFunction) → SessionsStayEnded (source_machine f)
+  pub source : (trees : List Tree) → SessionsStayEnded (source_machine trees)
   pub target : (m : Module) (v : View) → SessionsStayEnded (module_machine m v)
+
+-- an argument that is a value of `u32`
+abbrev pub IsU32 : Scalar → Type 0
+IsU32 arg = (n : ℕ) × (arg ≡ Number (pos n)) × (n < 2 ^ 32)
+
+-- a call of an exported function by its name, with a value of `u32` for each parameter
+pub record IsFitting (trees : List Tree) (call : Call) : Type 0 where
+  pub function : Exported
+  pub named : export_named trees call.name ≡ Some function
+  pub count : length call.args ≡ length function.params
+  pub values : All IsU32 call.args
+
+-- Calls of another name, with another number of arguments, or with an argument out of range make no session, and no other
+-- calls are left out.
+pub record SessionsAreOfFittingCalls (trees : List Tree) : Type 0 where
+  pub fitting : (call : Call) → IsTrue (source_fits trees call) → IsFitting trees call
+  pub fits : (call : Call) → IsFitting trees call → IsTrue (source_fits trees call)
+  pub sessions : (calls : List Call) → AllFit (source_machine trees) calls → All (IsFitting trees) calls

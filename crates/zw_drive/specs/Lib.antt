@@ -1,12 +1,7 @@
 pub mod Commands
 pub mod Lines
 pub mod Stops
-pub mod FormNames
-pub mod Form
-pub mod Arithmetic
-pub mod Source
 pub mod Meaning
 pub mod Due
 pub mod Ends
-pub mod Lowering
 pub mod Laws

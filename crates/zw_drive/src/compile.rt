@@ -1,10 +1,10 @@
 // From a text to a module.
 ghost use Rattle.zw_drive.specs.Ends.{Compiles};
 
-use crate::form::read_form;
-use crate::lowering::module_of;
 use std::alloc::Global;
 use zw_base::Refused;
+use zw_form::read_form;
+use zw_lower::lower;
 use zw_wasm::Module;
 
 /// The module of a text. A text that isn't of the form that is built yet is a stop at its first byte.
@@ -12,7 +12,7 @@ pub fn compile(alloc: Global, text: &[u8]) -> Result<Module, Refused>
     ensures { Compiles text.now result }
 {
     match read_form(alloc, text) {
-        Ok(function) => Ok(module_of(alloc, &function)?),
+        Ok(program) => Ok(lower(alloc, &program)?),
         Err(refused) => Err(refused),
     }
 }

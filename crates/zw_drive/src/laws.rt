@@ -2,14 +2,21 @@
 ghost use Rattle.std.specs.Prelude.{◌≡◌, ℕ, List};
 ghost use Rattle.zw_base.specs.declared.files.Handed.{Handed};
 ghost use Rattle.zw_drive.specs.Due.{IsDue};
-ghost use Rattle.zw_drive.specs.Laws.{EndsAreKept};
+ghost use Rattle.zw_form.specs.Trees.{Tree};
+ghost use Rattle.zw_drive.specs.Laws.{EndsAreKept, SessionsAreOfFittingCalls};
 
 /// No two statuses and no two lines are due for the same words and files.
 pub fn one_due()
     ensures { (words : List (List ℕ)) (files : List Handed) (status other : ℕ) (out more line another : List ℕ) → IsDue words files status out line → IsDue words files other more another → (status ≡ other) × (line ≡ another) }
 {}
 
-/// A session that ended stays ended with the same record under a larger bound, at a function of the form and at a module.
+/// A session that ended stays ended with the same record under a larger bound, at a file of the form and at a module.
 pub fn sessions_stay_ended()
     ensures { EndsAreKept }
+{}
+
+/// A call makes part of a session of a file exactly where it has the name of an exported function, as many arguments as
+/// that has parameters, and each of them from 0 to 2^32 - 1.
+pub fn sessions_are_of_fitting_calls()
+    ensures { (trees : List Tree) → SessionsAreOfFittingCalls trees }
 {}

@@ -6,16 +6,13 @@ mod build;
 mod command;
 mod compile;
 mod drive;
-mod form;
 mod laws;
 mod lines;
-mod lowering;
 mod status;
 mod stops;
 
 pub use drive::zig;
-pub use form::one_function;
-pub use laws::{one_due, sessions_stay_ended};
+pub use laws::{one_due, sessions_are_of_fitting_calls, sessions_stay_ended};
 
 #[cfg(test)]
 mod tests;

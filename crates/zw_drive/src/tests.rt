@@ -1,11 +1,11 @@
 // Tests of the whole call over objects in memory. Each expected byte is worked out by hand from docs/LANGUAGE.md,
 // docs/COMMANDS.md and the WebAssembly Core Specification 1.0, chapter 5.
-use crate::compile::compile;
+mod sessions;
+
 use crate::zig;
 use std::alloc::Global;
 use std::test::Fail;
 use zw_base::{MemSink, MemSource, MemTree, Oom, Word};
-use zw_wasm::{Num, RunEnd, exported_function, run_function};
 
 /// More bytes than any output below has.
 const ROOM: u64 = 1_000;
@@ -29,6 +29,26 @@ const SUM_MODULE: [u8; 110] = [
     0x0A, 0x09, 0x01, 0x07, 0x00, 0x20, 0x00, 0x20, 0x01, 0x6A, 0x0B,
 ];
 
+/// The module of a file without a function.
+#[rattlefmt::skip]
+const EMPTY_MODULE: [u8; 82] = [
+    0x00, 0x61, 0x73, 0x6D, 0x01, 0x00, 0x00, 0x00,
+    0x05, 0x04, 0x01, 0x01, 0x01, 0x01,
+    0x06, 0x10, 0x03, 0x7F, 0x01, 0x41, 0x00, 0x0B, 0x7F, 0x01, 0x41, 0x00, 0x0B, 0x7F, 0x01, 0x41, 0x00, 0x0B,
+    0x07, 0x30, 0x04,
+    0x06, b'm', b'e', b'm', b'o', b'r', b'y', 0x02, 0x00,
+    0x0B, b'p', b'a', b'n', b'i', b'c', b'_', b'c', b'a', b'u', b's', b'e', 0x03, 0x00,
+    0x09, b'p', b'a', b'n', b'i', b'c', b'_', b'p', b't', b'r', 0x03, 0x01,
+    0x09, b'p', b'a', b'n', b'i', b'c', b'_', b'l', b'e', b'n', 0x03, 0x02,
+];
+
+/// Texts of files without a function that is exported or called.
+const SAME_AS_EMPTY: [&[u8]; 3] = [
+    b"",
+    b" \n",
+    b"extern fn g(x: u32,) void; extern fn h() u32;",
+];
+
 /// Other spellings of `SUM`.
 const SAME_AS_SUM: [&[u8]; 3] = [
     b"\xEF\xBB\xBF\r\n\texport\tfn\nf\r(a\t:\nu32 , b : u32 )\r\nu32{return\ta+%b ; }\n\r\t ",
@@ -37,7 +57,7 @@ const SAME_AS_SUM: [&[u8]; 3] = [
 ];
 
 /// Texts of the form, and the code section (5.5.13) with which the module ends.
-const BUILT: [(&[u8], &[u8]); 7] = [
+const BUILT: [(&[u8], &[u8]); 11] = [
     (
         b"export fn f(a: u32) u32 { return a; }",
         b"\x0A\x06\x01\x04\x00\x20\x00\x0B",
@@ -66,34 +86,49 @@ const BUILT: [(&[u8], &[u8]); 7] = [
         b"export fn f(memory: u32) u32 { return memory; }",
         b"\x0A\x06\x01\x04\x00\x20\x00\x0B",
     ),
+    (
+        b"export fn f() u32 { return 4294967295; }",
+        b"\x0A\x06\x01\x04\x00\x41\x7F\x0B",
+    ),
+    (
+        b"export fn f(a: u32) u32 { return a +% 64; }",
+        b"\x0A\x0A\x01\x08\x00\x20\x00\x41\xC0\x00\x6A\x0B",
+    ),
+    (
+        b"export fn f(a: u32) u32 { return a; } export fn g(a: u32) u32 { return a; }",
+        b"\x0A\x0B\x02\x04\x00\x20\x00\x0B\x04\x00\x20\x00\x0B",
+    ),
+    (
+        b"extern fn h(x: u32) u32; export fn f() u32 { return h(2); }",
+        b"\x0A\x08\x01\x06\x00\x41\x02\x10\x00\x0B",
+    ),
 ];
 
 /// Texts that aren't of the form.
-const NOT_BUILT: [&[u8]; 39] = [
-    b"",
-    b" ",
+const NOT_BUILT: [&[u8]; 62] = [
     b"export fn f(a: u32) u32 { return a; } // the same",
     b"// nothing\nexport fn f(a: u32) u32 { return a; }",
     b"export fn f(a: u32) u32 { return 1; }",
-    b"export fn f(a: u32) u32 { return a +% 1; }",
     b"export fn f(a: u32) u32 { return a # a; }",
     b"export fn f(a: u32) u32 { return \xC3\xA4; }",
     b"export fn f(a: u32)\x0Bu32 { return a; }",
-    b"export fn f(a: u32) u32 { return a + a; }",
+    b"export fn f(a: u32) u32 { return a * a; }",
     b"export fn f(a: u32) u32 { return a + % a; }",
     b"export fn f(a: u32) u32 { return a +% ; }",
     b"export fn f(a: u32) u32 { return +% a; }",
+    b"export fn f(a: u32) u32 { return -a; }",
     b"export fn f(a: u32) u32 { return (a); }",
     b"export fn f(a: u32) u32 { return a }",
     b"export fn f(a: u32) u32 { return a;",
     b"export fn f(a: u32) u32 { return a; } }",
-    b"export fn f(a: u32) u32 { return a; } export fn g(a: u32) u32 { return a; }",
+    b"export fn f(a: u32) u32 { return a; } export fn f(a: u32) u32 { return a; }",
     b"fn f(a: u32) u32 { return a; }",
     b"export fn f(a: i32) u32 { return a; }",
     b"export fn f(a: u32) u64 { return a; }",
+    b"export fn f(a: u32) void { return a; }",
     b"export fn f(a: u32 b: u32) u32 { return a +% b; }",
     b"export fn f(a: u32,,) u32 { return a; }",
-    b"export fn f(,) u32 { return a; }",
+    b"export fn f(,) u32 { return 1; }",
     b"export fn f() u32 { return ; }",
     b"export fn f() u32 { return a; }",
     b"export fn f(a: u32) u32 { return b; }",
@@ -109,6 +144,30 @@ const NOT_BUILT: [&[u8]; 39] = [
     b"export fn f(f32: u32) u32 { return f32; }",
     b"export fn u32(a: u32) u32 { return a; }",
     b"export fn memory(a: u32) u32 { return a; }",
+    b"extern fn panic_len() void;",
+    b"extern fn f(a: u32) u32; export fn f() u32 { return 1; }",
+    b"extern fn f(a: u32) void; extern fn f(a: u32) void;",
+    b"extern fn f(a: u32) i32;",
+    b"extern fn f(a: u32) u32 { return a; }",
+    b"extern fn f(a: u32, a: u32) u32;",
+    b"extern fn f(g: u32) u32; extern fn g() u32;",
+    b"export fn f() u32 { return 1 + 2; }",
+    b"export fn f(a: u32) u32 { return 1 + 2 + a; }",
+    b"export fn f() u32 { return 4294967296; }",
+    b"export fn f() u32 { return 007; }",
+    b"export fn f() u32 { return 0x1F; }",
+    b"export fn f() u32 { return 1_000; }",
+    b"export fn f() u32 { return 1.5; }",
+    b"export fn f() u32 { return g(); }",
+    b"export fn g() u32 { return 1; } export fn f() u32 { return g(); }",
+    b"extern fn g(x: u32) u32; export fn f() u32 { return g(); }",
+    b"extern fn g() u32; export fn f() u32 { return g(1); }",
+    b"extern fn g() void; export fn f() u32 { return g(); }",
+    b"extern fn g() u32; export fn f() u32 { g(); return 1; }",
+    b"extern fn g() void; export fn f() u32 { g() return 1; }",
+    b"extern fn g(x: u32) void; export fn f() u32 { g(,); return 1; }",
+    b"extern fn g(x: u32) void; export fn f() u32 { return 1; g(1); }",
+    b"extern fn g() void; export fn f() u32 { 1; return 1; }",
 ];
 
 const USAGE: &[u8] = b"usage: check, build, run, exec, validate, load\n";
@@ -182,12 +241,18 @@ fn ends_with(alloc: Global, text: &[u8], code: &[u8]) -> Result<bool, Oom> {
 }
 
 #[test]
-fn a_sum_is_built(rt: HostRuntime) -> Result<(), Fail> {
+fn texts_are_built(rt: HostRuntime) -> Result<(), Fail> {
     assert!(rt; holds(rt.alloc(), &build(SUM, 0, &SUM_MODULE, b""))?);
     for (number, text) in SAME_AS_SUM.iter().enumerate() {
         assert!(rt;
             holds(rt.alloc(), &build(text, 0, &SUM_MODULE, b""))?,
             "at {number}"
+        );
+    }
+    for (number, text) in SAME_AS_EMPTY.iter().enumerate() {
+        assert!(rt;
+            holds(rt.alloc(), &build(text, 0, &EMPTY_MODULE, b""))?,
+            "empty at {number}"
         );
     }
     for (number, (text, code)) in BUILT.iter().enumerate() {
@@ -296,7 +361,7 @@ fn faults_are_told(rt: HostRuntime) -> Result<(), Fail> {
         },
         Row {
             failing_puts: &[0],
-            ..build(b"", 10, b"", b"")
+            ..build(b"fn", 10, b"", b"")
         },
         // The diagnostics take no part where there is no line.
         Row {
@@ -312,23 +377,6 @@ fn faults_are_told(rt: HostRuntime) -> Result<(), Fail> {
     ];
     for (number, row) in rows.iter().enumerate() {
         assert!(rt; holds(rt.alloc(), row)?, "at {number}");
-    }
-    Ok(())
-}
-
-#[test]
-fn the_module_of_a_sum_adds(rt: HostRuntime) -> Result<(), Fail> {
-    let alloc = rt.alloc();
-    let module = compile(alloc, SUM)?;
-    assert_eq!(rt; exported_function(&module, b"f"), Some(0));
-    assert!(rt; module.imports.is_empty());
-    assert!(rt; !module.codes.is_empty());
-    let args = [Num::I32(4_294_967_295), Num::I32(2)];
-    match run_function(alloc, &module, 0, &args, 10)? {
-        RunEnd::Returned(results, _) => {
-            assert_eq!(rt; results.as_slice(), [Num::I32(1)].as_slice());
-        }
-        _ => assert!(rt; false, "it has to return"),
     }
     Ok(())
 }

@@ -1,26 +1,24 @@
--- What the plain program of reduction rests on: its operands lie in reverse, and a run of flat code goes one instruction
--- on at a time.
-use Rattle.std.proofs.Common.{◌≡◌, ℕ, suc, ◌+◌, ◌-◌, ◌<◌, ◌≤◌, true, false, List, [], ◌∷◌, ◌++◌, length, take, drop, get_or, replicate, reverse, Option, Some, None, Result, Ok, Err, refl, sym, ap, ◌∙◌, subst, append_assoc, le-ltb}
-use Rattle.std.specs.Prelude.{slice_get, nat_lt, IfOk}
-use Rattle.std.proofs.lemmas.Option.{slice_get_read}
-use Rattle.std.specs.declared.alloc.AllocError.{AllocError}
-use Rattle.std.proofs.lemmas.List.{reverse-append, append-nil, drop_more, drop_all, take_more}
-use Rattle.zw_wasm.proofs.Calls.{enter-is}
-use Rattle.zw_wasm.proofs.RunsCompose.{rests}
-use Rattle.zw_wasm.specs.Computed.{outermost, holding, Executes, is_end_of, CodeRuns, FunctionRuns}
+-- What the plain program of reduction rests on: its operands and labels lie in reverse, the ends of its flat code, and
+-- what stands next in it.
+use Rattle.std.proofs.Common.{◌≡◌, ◌≢◌, ℕ, zero, suc, ◌+◌, ◌-◌, ◌<◌, ◌≤◌, true, false, cond, List, [], ◌∷◌, ◌++◌, length, take, drop, map, get_or, set, replicate, reverse, Option, Some, None, inl, inr, refl, sym, ap, ◌∙◌, subst, append_assoc, arith}
+use Rattle.std.specs.Prelude.{slice_get}
+use Rattle.std.proofs.lemmas.Bool.{cases_eq}
+use Rattle.std.proofs.lemmas.List.{reverse-append, append-nil, drop_more, take_more, get_or-set_same, get_or-set_other, get_or-replicate, length-replicate, length-set}
+use Rattle.std.proofs.lemmas.Option.{slice_get_within, get_or_from_slice_get}
+use Rattle.std.proofs.Math.Seq.{drop-nil, drop-length}
+use Rattle.zw_wasm.specs.Computed.{frame_of, label_of, FrameEnds, IsEnd, AreEndsFrom, AreArms, work_at, work_of}
 use Rattle.zw_wasm.specs.declared.module.Instr.{Instr}
-use Rattle.zw_wasm.specs.declared.module.Instr.TheVariants.{Unreachable, End, LocalGet, I32Const, I32Add}
-use Rattle.zw_wasm.specs.declared.module.Module.{Module}
+use Rattle.zw_wasm.specs.declared.module.Instr.TheVariants.{If, Else, End}
 use Rattle.zw_wasm.specs.declared.module.ValType.{ValType}
-use Rattle.zw_wasm.specs.declared.module.CodeBody.{CodeBody}
-use Rattle.zw_wasm.specs.declared.reduce.RunEnd.{RunEnd}
-use Rattle.zw_wasm.specs.declared.reduce.RunEnd.TheVariants.{Returned, Trapped, StillRuns}
-use Rattle.zw_wasm.specs.ModuleMachine.{host_frame, begun}
-use Rattle.zw_wasm.specs.Reduction.{Config, World, Action, Goes, CallsHost, Traps, replied, host_called, Finished, Going, Ended, act, with_operand, resolved, step, at_bound, after_step, run}
-use Rattle.zw_wasm.specs.Signature.{View}
-use Rattle.zw_wasm.specs.Structure.{Num, Plain, Ends, Code, code_of, num_of, zeros}
+use Rattle.zw_wasm.specs.declared.reduce.ends.Arms.{Arms}
+use Rattle.zw_wasm.specs.declared.reduce.ends.SequenceEnd.{SequenceEnd}
+use Rattle.zw_wasm.specs.declared.reduce.frame.Frame.{Frame}
+use Rattle.zw_wasm.specs.declared.reduce.frame.Label.{Label}
+use Rattle.zw_wasm.specs.Reduction as reduction
+use Rattle.zw_wasm.specs.Reduction.{Returns, stands_in, stands_next}
+use Rattle.zw_wasm.specs.Structure.{Num, Ends, Plain, Choice, Code, Part, code_of, num_of, parts, begun_with, first_part, other_parts, choice_of, choice_of_one, choice_of_two, zeros}
 
--- one more operand at the end of the list is the first
+-- one more item at the end of the list is the first
 pub reverse_push : {A : Type 0} (xs : List A) (x : A) → reverse (xs ++ x ∷ []) ≡ x ∷ reverse xs
 reverse_push xs x = reverse-append xs (x ∷ [])
 
@@ -30,113 +28,6 @@ zeros_push (r ∷ runs) run =
     ap (λ l. replicate r.0 (num_of r.1 0) ++ l) (zeros_push runs run)
     ∙ sym (append_assoc (replicate r.0 (num_of r.1 0)) (zeros runs) (replicate run.0 (num_of run.1 0)))
 
--- a local is an operand more
-pub got_local : (n : ℕ) (x : Num) (locals old new : List Num) → slice_get locals n ≡ Some x → new ≡ old ++ x ∷ [] → Executes (LocalGet n) locals old new None
-got_local n x locals old new found pushed = λ c.
-    ap (λ o. with_operand o (holding locals old c)) found
-    ∙ ap (λ os. Goes (record c { frame = record c.frame { locals = locals; operands = os } })) (sym (reverse_push old x) ∙ ap reverse (sym pushed))
-
-pub no_local : (n : ℕ) (locals old new : List Num) → slice_get locals n ≡ None → Executes (LocalGet n) locals old new (Some 0)
-no_local n locals old new none = λ c. ap (λ o. with_operand o (holding locals old c)) none
-
-code_of-plain : (i : Instr) (is : List Instr) → is_end_of i ≡ false → code_of (i ∷ is) ≡ Plain i (code_of is)
-code_of-plain Unreachable is e = refl
-code_of-plain End is e = absurd (cc)
-code_of-plain (LocalGet n) is e = refl
-code_of-plain (I32Const z) is e = refl
-code_of-plain I32Add is e = refl
-
-code_of-end : (i : Instr) (is : List Instr) → is_end_of i ≡ true → code_of (i ∷ is) ≡ Ends
-code_of-end Unreachable is e = absurd (cc)
-code_of-end End is e = refl
-code_of-end (LocalGet n) is e = absurd (cc)
-code_of-end (I32Const z) is e = absurd (cc)
-code_of-end I32Add is e = absurd (cc)
-
--- the same configuration with this code
-abbrev coded : ℕ → Code → List Num → List Num → World → Config
-coded f code locals operands w = record {
-  frame = record { func = f; locals = locals; operands = reverse operands; code = code; labels = [] };
-  below = host_frame ∷ [];
-  world = w;
-}
-
--- a step before an instruction that isn't an end
-step-plain : (m : Module) (v : View) (f : ℕ) (i : Instr) (is : List Instr) (locals ops : List Num) (w : World) → is_end_of i ≡ false → step m v (outermost f (i ∷ is) locals ops w) ≡ resolved m v w (act i (holding locals ops (outermost f is locals ops w)))
-step-plain m v f i is locals ops w e = ap (λ code. step m v (coded f code locals ops w)) (code_of-plain i is e)
-
--- A run of this code with these locals leads to the place k in it, with these operands and this much of the bound left.
-pub record Leads (instrs : List Instr) (locals : List Num) (bound k : ℕ) (ops : List Num) (left : ℕ) : Type 0 where
-  pub by : (m : Module) (v : View) (f : ℕ) (w : World) → run m v bound (outermost f instrs locals [] w) ≡ run m v left (outermost f (drop k instrs) locals ops w)
-
-pub leads_none : (instrs : List Instr) (locals : List Num) (bound : ℕ) (ops : List Num) → ops ≡ [] → Leads instrs locals bound 0 ops bound
-leads_none instrs locals bound ops e = record { by = λ m v f w. ap (λ os. run m v bound (outermost f instrs locals os w)) (sym e) }
-
--- code with nothing left returns its operands
-returns_at_end : (m : Module) (v : View) (f : ℕ) (locals ops : List Num) (w : World) (left : ℕ) → run m v left (coded f Ends locals ops w) ≡ Ended (Finished (reverse ops)) w left
-returns_at_end m v f locals ops w left =
-    rests m v (coded f Ends locals ops w) (reverse ops ++ []) refl left
-    ∙ ap (λ rs. Ended (Finished rs) w left) (append-nil (reverse ops))
-
-pub ends_at : (instrs : List Instr) (locals : List Num) (bound k : ℕ) (ops results : List Num) (left : ℕ) (i d : Instr) → k < length instrs → i ≡ get_or instrs k d → is_end_of i ≡ true → results ≡ ops → Leads instrs locals bound k ops left → CodeRuns instrs locals bound (Returned results left)
-ends_at instrs locals bound k ops results left i d inside is end same leads = λ m v f w.
-    leads.by m v f w
-    ∙ ap (λ is. run m v left (outermost f is locals ops w)) (drop_more instrs k d inside ∙ ap (λ j. j ∷ drop (k + 1) instrs) (sym is))
-    ∙ ap (λ code. run m v left (coded f code locals ops w)) (code_of-end i (drop (k + 1) instrs) end)
-    ∙ returns_at_end m v f locals ops w left
-    ∙ ap (λ os. Ended (Finished (reverse os)) w left) (sym same)
-
-pub ends_after : (instrs : List Instr) (locals : List Num) (bound k : ℕ) (ops results : List Num) (left : ℕ) → length instrs ≤ k → results ≡ ops → Leads instrs locals bound k ops left → CodeRuns instrs locals bound (Returned results left)
-ends_after instrs locals bound k ops results left past same leads = λ m v f w.
-    leads.by m v f w
-    ∙ ap (λ is. run m v left (outermost f is locals ops w)) (drop_all k instrs past)
-    ∙ returns_at_end m v f locals ops w left
-    ∙ ap (λ os. Ended (Finished (reverse os)) w left) (sym same)
-
-at_bound-replied : (t : Option ValType) (replies : List ℕ) (c : Config) (w : World) → at_bound (replied t replies c) w ≡ Going w
-at_bound-replied None replies c w = refl
-at_bound-replied (Some t) [] c w = refl
-at_bound-replied (Some t) (r ∷ rs) c w = refl
-
-at_bound-host_called : (shown : Option (List (List ℕ))) (m : Module) (v : View) (k : ℕ) (args : List Num) (c : Config) (w : World) → at_bound (host_called shown m v k args c) w ≡ Going w
-at_bound-host_called None m v k args c w = refl
-at_bound-host_called (Some shown) m v k args c w = at_bound-replied _ _ _ w
-
--- an instruction is no end
-at_bound-resolved : (m : Module) (v : View) (a : Action) (w : World) → at_bound (resolved m v w a) w ≡ Going w
-at_bound-resolved m v (Goes c) w = refl
-at_bound-resolved m v (CallsHost k args c) w = at_bound-host_called _ m v k args c w
-at_bound-resolved m v (Traps code) w = refl
-
-pub stops_at : (instrs : List Instr) (locals : List Num) (bound k : ℕ) (ops : List Num) (left : ℕ) (i d : Instr) → k < length instrs → i ≡ get_or instrs k d → is_end_of i ≡ false → left ≡ 0 → Leads instrs locals bound k ops left → CodeRuns instrs locals bound StillRuns
-stops_at instrs locals bound k ops left i d inside is plain none leads = λ m v f w.
-    let rest = drop (k + 1) instrs in
-    leads.by m v f w
-    ∙ ap (λ n. run m v n (outermost f (drop k instrs) locals ops w)) none
-    ∙ ap (λ is. run m v 0 (outermost f is locals ops w)) (drop_more instrs k d inside ∙ ap (λ j. j ∷ rest) (sym is))
-    ∙ ap (λ s. at_bound s w) (step-plain m v f i rest locals ops w plain)
-    ∙ at_bound-resolved m v (act i (holding locals ops (outermost f rest locals ops w))) w
-
--- the run goes on behind an instruction
-goes_on : (instrs : List Instr) (locals : List Num) (bound k : ℕ) (ops : List Num) (left : ℕ) (i d : Instr) (m : Module) (v : View) (f : ℕ) (w : World) → k < length instrs → i ≡ get_or instrs k d → is_end_of i ≡ false → Leads instrs locals bound k ops (suc left) → run m v bound (outermost f instrs locals [] w) ≡ after_step (resolved m v w (act i (holding locals ops (outermost f (drop (k + 1) instrs) locals ops w)))) w left (run m v left)
-goes_on instrs locals bound k ops left i d m v f w inside is plain leads =
-    let rest = drop (k + 1) instrs in
-    leads.by m v f w
-    ∙ ap (λ is. run m v (suc left) (outermost f is locals ops w)) (drop_more instrs k d inside ∙ ap (λ j. j ∷ rest) (sym is))
-    ∙ ap (λ s. after_step s w left (run m v left)) (step-plain m v f i rest locals ops w plain)
-
-pub leads_more : (instrs : List Instr) (locals : List Num) (bound k : ℕ) (ops new : List Num) (left : ℕ) (i d : Instr) → k < length instrs → i ≡ get_or instrs k d → is_end_of i ≡ false → Executes i locals ops new None → Leads instrs locals bound k ops (suc left) → Leads instrs locals bound (k + 1) new left
-leads_more instrs locals bound k ops new left i d inside is plain executes leads = record {
-  by = λ m v f w.
-      goes_on instrs locals bound k ops left i d m v f w inside is plain leads
-      ∙ ap (λ a. after_step (resolved m v w a) w left (run m v left)) (executes (outermost f (drop (k + 1) instrs) locals ops w));
-}
-
-pub traps_at : (instrs : List Instr) (locals : List Num) (bound k : ℕ) (ops new : List Num) (left code : ℕ) (i d : Instr) → k < length instrs → i ≡ get_or instrs k d → is_end_of i ≡ false → Executes i locals ops new (Some code) → Leads instrs locals bound k ops (suc left) → CodeRuns instrs locals bound (Trapped code left)
-traps_at instrs locals bound k ops new left code i d inside is plain executes leads = λ m v f w.
-    goes_on instrs locals bound k ops left i d m v f w inside is plain leads
-    ∙ ap (λ a. after_step (resolved m v w a) w left (run m v left)) (executes (outermost f (drop (k + 1) instrs) locals ops w))
-
 -- the locals of one run more
 pub locals_more : (args old new : List Num) (runs : List (ℕ × ValType)) (i : ℕ) (d : ℕ × ValType) → i < length runs → old ≡ args ++ zeros (take i runs) → new ≡ old ++ replicate (get_or runs i d).0 (num_of (get_or runs i d).1 0) → new ≡ args ++ zeros (take (i + 1) runs)
 locals_more args old new runs i d inside before pushed =
@@ -144,21 +35,167 @@ locals_more args old new runs i d inside before pushed =
     pushed ∙ ap (λ l. l ++ more) before ∙ append_assoc args (zeros (take i runs)) more
     ∙ ap (λ z. args ++ z) (sym (ap zeros (take_more runs i d inside) ∙ zeros_push (take i runs) (get_or runs i d)))
 
--- a function runs as its body's code does on its arguments and locals
-pub function_runs : (m : Module) (f : ℕ) (args locals : List Num) (bound : ℕ) (end : RunEnd) (b : CodeBody) → length m.imports ≤ f → slice_get m.codes (f - length m.imports) ≡ Some b → locals ≡ args ++ zeros b.locals → CodeRuns b.instrs locals bound end → FunctionRuns m f args bound end
-function_runs m f args locals bound end b own there same runs = λ v w.
-    let later : nat_lt f (length m.imports) ≡ false = le-ltb f (length m.imports) own in
-    ap (λ a. begun (resolved m v w a) w m v bound) (enter-is m f args w b later there)
-    ∙ ap (λ ls. run m v bound (outermost f b.instrs ls [] w)) (sym same)
-    ∙ runs m v f w
+-- an instruction that neither begins nor ends a sequence stands before the first part of what follows
+pub parts-plain : (i : Instr) (is : List Instr) → ((ty : Option ValType) → i ≢ If ty) → i ≢ Else → i ≢ End → parts (i ∷ is) ≡ begun_with (λ rest. Plain i rest) (parts is)
+parts-plain (If ty) is not_if not_else not_end = absurd (not_if ty refl)
+parts-plain Else is not_if not_else not_end = absurd (not_else refl)
+parts-plain End is not_if not_else not_end = absurd (not_end refl)
+parts-plain i is not_if not_else not_end = refl
 
--- the body that is read where the code lies
-pub body_read : (m : Module) (f len : ℕ) (codes : List CodeBody) (b : CodeBody) → codes ≡ m.codes → len ≡ length m.imports → f - length m.imports < length m.codes → b ≡ get_or codes (f - len) b → slice_get m.codes (f - length m.imports) ≡ Some b
-body_read m f len codes b same count inside is =
-    slice_get_read m.codes (length m.codes) (f - length m.imports) b refl inside
-    (is ∙ ap (λ cs. get_or cs (f - len) b) same ∙ ap (λ n. get_or m.codes (f - n) b) count)
+choice-two : (ty : Option ValType) (ps qs rs : List Part) → (first_part ps).by_else ≡ true → qs ≡ other_parts ps → rs ≡ other_parts qs → choice_of ty ps ≡ begun_with (λ rest. Choice ty (first_part ps).code (first_part qs).code rest) rs
+choice-two ty ps qs rs by_else second third =
+    ap (λ b. cond b (choice_of_two ty ps) (choice_of_one ty ps)) by_else
+    ∙ ap (λ ts. begun_with (λ rest. Choice ty (first_part ps).code (first_part (other_parts ps)).code rest) ts) (ap other_parts (sym second) ∙ sym third)
+    ∙ ap (λ ts. begun_with (λ rest. Choice ty (first_part ps).code (first_part ts).code rest) rs) (sym second)
 
-pub function_result : (m : Module) (f : ℕ) (args locals : List Num) (bound : ℕ) (b : CodeBody) (instrs : List Instr) (r : Result RunEnd AllocError) → length m.imports ≤ f → slice_get m.codes (f - length m.imports) ≡ Some b → instrs ≡ b.instrs → locals ≡ args ++ zeros b.locals → IfOk r (λ end. CodeRuns instrs locals bound end) → IfOk r (λ end. FunctionRuns m f args bound end)
-function_result m f args locals bound b instrs (Ok end) own there code same runs =
-    function_runs m f args locals bound end b own there same (subst (λ is. CodeRuns is locals bound end) code runs)
-function_result m f args locals bound b instrs (Err e) own there code same runs = tt
+choice-one : (ty : Option ValType) (ps qs : List Part) (none : Code) → (first_part ps).by_else ≡ false → qs ≡ other_parts ps → none ≡ Ends → choice_of ty ps ≡ begun_with (λ rest. Choice ty (first_part ps).code none rest) qs
+choice-one ty ps qs none by_end second empty =
+    ap (λ b. cond b (choice_of_two ty ps) (choice_of_one ty ps)) by_end
+    ∙ ap (λ ts. begun_with (λ rest. Choice ty (first_part ps).code Ends rest) ts) (sym second)
+    ∙ ap (λ c. begun_with (λ rest. Choice ty (first_part ps).code c rest) qs) (sym empty)
+
+-- the arms of an `if` with an `else`, and of one without
+pub arms-two : (instrs : List Instr) (at : ℕ) (e f : SequenceEnd) → at < length instrs → e.by_else ≡ true → IsEnd instrs (at + 1) e → IsEnd instrs e.next f → AreArms instrs at (record { then_code = at + 1; else_code = e.next; follows = f.next })
+arms-two instrs at e f inside by_else first second = record {
+  behind = omega (arith, first.behind, second.behind);
+  within = second.within;
+  choice = λ ty. choice-two ty (parts (drop (at + 1) instrs)) (parts (drop e.next instrs)) (parts (drop f.next instrs)) (sym first.by_else ∙ by_else) first.others second.others;
+}
+
+pub arms-one : (instrs : List Instr) (at : ℕ) (e : SequenceEnd) → at < length instrs → e.by_else ≡ false → IsEnd instrs (at + 1) e → AreArms instrs at (record { then_code = at + 1; else_code = length instrs; follows = e.next })
+arms-one instrs at e inside by_end first = record {
+  behind = omega (arith, first.behind);
+  within = first.within;
+  choice = λ ty. choice-one ty (parts (drop (at + 1) instrs)) (parts (drop e.next instrs)) (code_of (drop (length instrs) instrs)) (sym first.by_else ∙ by_end) first.others (ap code_of (drop-length instrs));
+}
+
+-- a sequence ends where that ends which begins behind something that isn't its end
+end-behind : (instrs : List Instr) (at next : ℕ) (e : SequenceEnd) (before : Code → Code) → at ≤ next → parts (drop at instrs) ≡ begun_with before (parts (drop next instrs)) → IsEnd instrs next e → IsEnd instrs at e
+end-behind instrs at next e before le begun end = record {
+  behind = omega (arith, end.behind);
+  within = end.within;
+  by_else = end.by_else ∙ sym (ap (λ ps. (first_part ps).by_else) begun);
+  others = end.others ∙ sym (ap other_parts begun);
+}
+
+pub end-plain : (instrs : List Instr) (at : ℕ) (i : Instr) (e : SequenceEnd) → drop at instrs ≡ i ∷ drop (at + 1) instrs → ((ty : Option ValType) → i ≢ If ty) → i ≢ Else → i ≢ End → IsEnd instrs (at + 1) e → IsEnd instrs at e
+end-plain instrs at i e here not_if not_else not_end end =
+    end-behind instrs at (at + 1) e (λ rest. Plain i rest) (omega arith) (ap parts here ∙ parts-plain i (drop (at + 1) instrs) not_if not_else not_end) end
+
+pub end-choice : (instrs : List Instr) (at : ℕ) (arms : Arms) (ty : Option ValType) (e : SequenceEnd) → drop at instrs ≡ If ty ∷ drop (at + 1) instrs → AreArms instrs at arms → IsEnd instrs arms.follows e → IsEnd instrs at e
+end-choice instrs at arms ty e here are end =
+    end-behind instrs at arms.follows e (λ rest. Choice ty (code_of (drop arms.then_code instrs)) (code_of (drop arms.else_code instrs)) rest) (omega (arith, are.behind)) (ap parts here ∙ are.choice ty) end
+
+-- behind the last instruction a sequence ends
+pub end-last : (instrs : List Instr) → IsEnd instrs (length instrs) (record { next = length instrs; by_else = false })
+end-last instrs = record {
+  behind = omega arith;
+  within = omega arith;
+  by_else = sym (ap (λ is. (first_part (parts is)).by_else) (drop-length instrs));
+  others = ap parts (drop-length instrs) ∙ sym (ap (λ is. other_parts (parts is)) (drop-length instrs));
+}
+
+-- the table that has the last end alone, and with one more
+pub ends-last : (instrs : List Instr) (ends : List SequenceEnd) → ends ≡ replicate (length instrs + 1) (record { next = length instrs; by_else = false }) → AreEndsFrom instrs (length instrs) ends
+ends-last instrs ends same =
+    let last : SequenceEnd = record { next = length instrs; by_else = false } in
+    record {
+      count = ap length same ∙ length-replicate (length instrs + 1) last;
+      each = λ at d from within.
+          let here : at ≡ length instrs = omega arith in
+          let read : get_or ends at d ≡ last = ap (λ es. get_or es at d) same ∙ get_or-replicate (length instrs + 1) at last d (omega arith) in
+          subst (λ e. IsEnd instrs at e) (sym read) (subst (λ k. IsEnd instrs k last) (sym here) (end-last instrs));
+    }
+
+pub ends-more : (instrs : List Instr) (from : ℕ) (ends : List SequenceEnd) (e : SequenceEnd) → 0 < from → from ≤ length instrs → AreEndsFrom instrs from ends → IsEnd instrs (from - 1) e → AreEndsFrom instrs (from - 1) (set ends (from - 1) e)
+ends-more instrs from ends e some inside are end = record {
+  count = length-set ends (from - 1) e ∙ are.count;
+  each = λ at d above within.
+      elim (cases_eq at (from - 1)) [
+        | inl here ↦ subst (λ x. IsEnd instrs at x) (sym (ap (λ k. get_or (set ends (from - 1) e) k d) here ∙ get_or-set_same ends (from - 1) e d (omega (arith, are.count)))) (subst (λ k. IsEnd instrs k e) (sym here) end)
+        | inr other ↦ subst (λ x. IsEnd instrs at x) (sym (get_or-set_other ends (from - 1) at e d other)) (are.each at d (omega arith) within)
+      ];
+}
+
+pub ends-whole : (instrs : List Instr) (from : ℕ) (ends : List SequenceEnd) → from ≤ 0 → AreEndsFrom instrs from ends → AreEndsFrom instrs 0 ends
+ends-whole instrs from ends none are = let e : from ≡ 0 = omega arith in subst (λ k. AreEndsFrom instrs k ends) e are
+
+-- where a sequence ends, no code is left of it
+pub code_of-ended : (instrs : List Instr) (at : ℕ) → work_at instrs at ≡ None → code_of (drop at instrs) ≡ Ends
+code_of-ended [] at e = ap code_of (drop-nil at)
+code_of-ended (Else ∷ is) zero e = refl
+code_of-ended (End ∷ is) zero e = refl
+code_of-ended (i ∷ is) zero e = absurd (cc)
+code_of-ended (i ∷ is) (suc at) e = code_of-ended is at e
+
+-- the same stands next in both frames, of whatever function they are
+pub record SameStands (instrs : List Instr) (old new : Frame) : Type 0 where
+  pub by : (f : ℕ) → stands_in (frame_of f instrs old) ≡ stands_in (frame_of f instrs new)
+
+-- what stands next where a sequence ends, with these labels
+stands_ended : (instrs : List Instr) (x : Frame) (f : ℕ) (labels : List reduction.Label) → work_at instrs x.at ≡ None → map (label_of instrs) (reverse x.labels) ≡ labels → stands_in (frame_of f instrs x) ≡ stands_next f x.locals Ends (reverse x.operands) labels
+stands_ended instrs x f labels ended same =
+    ap (λ code. stands_next f x.locals code (reverse x.operands) (map (label_of instrs) (reverse x.labels))) (code_of-ended instrs x.at ended)
+    ∙ ap (λ ls. stands_next f x.locals Ends (reverse x.operands) ls) same
+
+-- a frame ends where a sequence ends under no label
+pub frame_ends : (instrs : List Instr) (old x new : Frame) → SameStands instrs old x → work_at instrs x.at ≡ None → x.labels ≡ [] → new.operands ≡ x.operands → FrameEnds instrs old new
+frame_ends instrs old x new stands ended none same = record {
+  by = λ f.
+      stands.by f
+      ∙ stands_ended instrs x f [] ended (ap (λ ls. map (label_of instrs) (reverse ls)) none)
+      ∙ ap (λ os. Returns (reverse os)) (sym same);
+}
+
+-- an end of a label takes no step
+pub label_left : (instrs : List Instr) (old x : Frame) (ls : List Label) (l : Label) (new : Frame) → SameStands instrs old x → work_at instrs x.at ≡ None → x.labels ≡ ls ++ l ∷ [] → new ≡ record { locals = x.locals; operands = l.below ++ x.operands; labels = ls; at = l.follows } → SameStands instrs old new
+label_left instrs old x ls l new stands ended last same = record {
+  by = λ f.
+      let outer = map (label_of instrs) (reverse ls) in
+      let labels : map (label_of instrs) (reverse x.labels) ≡ label_of instrs l ∷ outer =
+      ap (λ ks. map (label_of instrs) (reverse ks)) last ∙ ap (λ ks. map (label_of instrs) ks) (reverse_push ls l) in
+      stands.by f
+      ∙ stands_ended instrs x f (label_of instrs l ∷ outer) ended labels
+      ∙ ap (λ os. stands_next f x.locals (code_of (drop l.follows instrs)) os outer) (sym (reverse-append l.below x.operands))
+      ∙ ap (λ y. stands_in (frame_of f instrs y)) (sym same);
+}
+
+work_of-some : (o : Option Instr) (i : Instr) → work_of o ≡ Some i → o ≡ Some i
+work_of-some None i e = absurd (cc)
+work_of-some (Some Else) i e = absurd (cc)
+work_of-some (Some End) i e = absurd (cc)
+work_of-some (Some j) i e = e
+
+work_of-not_else : (o : Option Instr) (i : Instr) → work_of o ≡ Some i → i ≢ Else
+work_of-not_else None i e same = absurd (cc)
+work_of-not_else (Some Else) i e same = absurd (cc)
+work_of-not_else (Some End) i e same = absurd (cc)
+work_of-not_else (Some j) i e same = absurd (cc)
+
+work_of-not_end : (o : Option Instr) (i : Instr) → work_of o ≡ Some i → i ≢ End
+work_of-not_end None i e same = absurd (cc)
+work_of-not_end (Some Else) i e same = absurd (cc)
+work_of-not_end (Some End) i e same = absurd (cc)
+work_of-not_end (Some j) i e same = absurd (cc)
+
+-- the instruction that stands at a place is in the code
+pub work_at-stands : (instrs : List Instr) (at : ℕ) (i : Instr) → work_at instrs at ≡ Some i → slice_get instrs at ≡ Some i
+work_at-stands instrs at i e = work_of-some (slice_get instrs at) i e
+
+pub work_at-inside : (instrs : List Instr) (at : ℕ) (i : Instr) → work_at instrs at ≡ Some i → at < length instrs
+work_at-inside instrs at i e = slice_get_within instrs at i (work_at-stands instrs at i e)
+
+work_at-begins : (instrs : List Instr) (at : ℕ) (i : Instr) → work_at instrs at ≡ Some i → drop at instrs ≡ i ∷ drop (at + 1) instrs
+work_at-begins instrs at i e =
+    drop_more instrs at i (work_at-inside instrs at i e)
+    ∙ ap (λ j. j ∷ drop (at + 1) instrs) (get_or_from_slice_get instrs at i i (work_at-stands instrs at i e))
+
+-- the code of an `if`, and of any other instruction
+pub code_of-choice : (instrs : List Instr) (at : ℕ) (ty : Option ValType) (arms : Arms) → work_at instrs at ≡ Some (If ty) → AreArms instrs at arms → code_of (drop at instrs) ≡ Choice ty (code_of (drop arms.then_code instrs)) (code_of (drop arms.else_code instrs)) (code_of (drop arms.follows instrs))
+code_of-choice instrs at ty arms e are = ap (λ ps. (first_part ps).code) (ap parts (work_at-begins instrs at (If ty) e) ∙ are.choice ty)
+
+pub code_of-plain : (instrs : List Instr) (at : ℕ) (i : Instr) → work_at instrs at ≡ Some i → ((ty : Option ValType) → i ≢ If ty) → code_of (drop at instrs) ≡ Plain i (code_of (drop (at + 1) instrs))
+code_of-plain instrs at i e not_if =
+    ap (λ ps. (first_part ps).code)
+    (ap parts (work_at-begins instrs at i e)
+    ∙ parts-plain i (drop (at + 1) instrs) not_if (work_of-not_else (slice_get instrs at) i e) (work_of-not_end (slice_get instrs at) i e))

@@ -15,12 +15,14 @@ use Rattle.zw_wasm.specs.declared.module.Element.{Element}
 use Rattle.zw_wasm.specs.declared.module.DataSegment.{DataSegment}
 use Rattle.zw_wasm.specs.declared.module.CodeBody.{CodeBody}
 use Rattle.zw_wasm.specs.declared.module.Instr.{Instr}
-use Rattle.zw_wasm.specs.declared.module.Instr.TheVariants.{Unreachable, End, LocalGet, I32Const, I32Add}
 use Rattle.zw_wasm.specs.declared.module.Module.{Module}
-use Rattle.zw_wasm.specs.Leb.{unsigned, signed}
-use Rattle.zw_wasm.specs.Spelling.{vector, byte_vector, value_type, result_type, function_type, bounds, limits, table_type, mutability, instruction, expression, function_import, global, export, element, local_run, body, code, data_segment, section, list_section, start_section, header, front_sections, back_sections, spelling}
-use Rattle.zw_wasm.specs.ModuleBytes.{ModuleBytes, ◌⌢◌, IsHeader, InTurn, IsU32, EachInTurn, IsVector, IsByteVector, IsName, Sized, IsValueType, IsResultType, IsFunctionType, AreBounds, AreLimits, IsTableType, IsMutability, IsInstruction, IsExpression, EndsOnce, IsFunctionImport, IsGlobal, IsExport, IsElement, IsLocalRun, IsCode, IsDataSegment, IsSection, IsListSection, IsStartSection, AreCustomSections, Behind, AreFrontSections, AreBackSections}
-use Rattle.zw_wasm.specs.Fits.{Fits, Fits32, Countable, FitsVector, FitsSection, FitsValueType, FitsLimits, FitsInstruction, FitsExpression, FitsFunctionType, FitsImport, FitsGlobal, FitsExport, FitsElement, FitsRun, FitsCode, FitsData, FitsFront, FitsBack}
+use Rattle.zw_wasm.specs.declared.encode.instructions.Immediate.{Immediate}
+use Rattle.zw_wasm.specs.declared.encode.instructions.Immediate.TheVariants.{Nothing, BlockType, Index, Signed32}
+use Rattle.zw_wasm.specs.Leb.{unsigned}
+use Rattle.zw_wasm.specs.Opcodes.{opcode, immediate_of}
+use Rattle.zw_wasm.specs.Spelling.{vector, byte_vector, value_type, result_type, function_type, bounds, limits, table_type, mutability, block_type, immediate, instruction, expression, function_import, global, export, element, local_run, body, code, data_segment, section, list_section, start_section, header, front_sections, back_sections, spelling}
+use Rattle.zw_wasm.specs.ModuleBytes.{ModuleBytes, ◌⌢◌, IsHeader, InTurn, IsU32, EachInTurn, IsVector, IsByteVector, IsName, Sized, IsValueType, IsResultType, IsFunctionType, AreBounds, AreLimits, IsTableType, IsMutability, IsBlockType, IsImmediate, IsInstruction, IsExpression, EndsOnce, IsFunctionImport, IsGlobal, IsExport, IsElement, IsLocalRun, IsCode, IsDataSegment, IsSection, IsListSection, IsStartSection, AreCustomSections, Behind, AreFrontSections, AreBackSections}
+use Rattle.zw_wasm.specs.Fits.{Fits, Fits32, Countable, FitsVector, FitsSection, FitsValueType, FitsLimits, FitsImmediate, FitsInstruction, FitsExpression, FitsFunctionType, FitsImport, FitsGlobal, FitsExport, FitsElement, FitsRun, FitsCode, FitsData, FitsFront, FitsBack}
 use Rattle.zw_wasm.specs.WellFormed.{IsWellFormed, HasNames, IsWellFormedExport, IsWellFormedCode}
 use Rattle.zw_wasm.proofs.LebSpellings.{unsigned_spells, signed_spells, length-unsigned}
 
@@ -113,12 +115,18 @@ mutability_spells true = refl
 
 -- ---- instructions
 
+block_type_spells : (o : Option ValType) → IsBlockType o (block_type o)
+block_type_spells None = refl
+block_type_spells (Some t) = value_type_spells t
+
+immediate_spells : (a : Immediate) → FitsImmediate a → IsImmediate a (immediate a)
+immediate_spells Nothing fits = refl
+immediate_spells (BlockType result) fits = block_type_spells result
+immediate_spells (Index index) fits = unsigned_spells index fits
+immediate_spells (Signed32 z) fits = signed_spells z fits
+
 instruction_spells : (i : Instr) → FitsInstruction i → IsInstruction i (instruction i)
-instruction_spells Unreachable fits = refl
-instruction_spells End fits = refl
-instruction_spells (LocalGet index) fits = in_turn (0x20 ∷ []) (unsigned index) refl (unsigned_spells index fits)
-instruction_spells (I32Const z) fits = in_turn (0x41 ∷ []) (signed z) refl (signed_spells z fits)
-instruction_spells I32Add fits = refl
+instruction_spells i fits = in_turn (opcode i ∷ []) (immediate (immediate_of i)) refl (immediate_spells (immediate_of i) fits)
 
 abbrev instructions : Kind Instr
 instructions = record { IsItem = IsInstruction; item = instruction; IsWell = λ i. Unit {0}; FitsItem = FitsInstruction; spells = λ i well fits. instruction_spells i fits }

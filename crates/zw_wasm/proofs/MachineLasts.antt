@@ -1,43 +1,102 @@
 -- A module's machine keeps the law of machines: a call that ended stays ended, with the same record, under a larger
 -- bound, and one that runs on only adds to its record.
-use Rattle.std.proofs.Common.{◌≡◌, ℕ, zero, suc, ◌+◌, ◌≤◌, List, [], ◌∷◌, Option, Some, None, refl, sym, ap, subst, arith}
+use Rattle.std.proofs.Common.{◌≡◌, ℕ, zero, suc, ◌+◌, ◌≤◌, Bool, true, false, cond, List, [], ◌∷◌, length, take, drop, reverse, Option, Some, None, refl, sym, ap, subst, arith}
+use Rattle.std.specs.Prelude.{nat_eq, nat_le, nat_lt, slice_set}
 use Rattle.zw_session.proofs.Prefixes.{prefix_same, prefix_trans, prefix_front}
 use Rattle.zw_session.specs.Bounds.{Lasts, LeavesWithin, StaysEnded}
 use Rattle.zw_session.specs.Lists.{IsPrefix}
 use Rattle.zw_session.specs.Sessions.{Scalar, HostEvent, Halt, Panicked, WantsReply, Running, Wild, Trapped, Halted, Outcome}
 use Rattle.zw_wasm.proofs.RunsCompose.{with_more, run-stays_ended}
+use Rattle.zw_wasm.specs.declared.module.CodeBody.{CodeBody}
+use Rattle.zw_wasm.specs.declared.module.FuncType.{FuncType}
 use Rattle.zw_wasm.specs.declared.module.Instr.{Instr}
-use Rattle.zw_wasm.specs.declared.module.Instr.TheVariants.{Unreachable, End, LocalGet, I32Const, I32Add}
+use Rattle.zw_wasm.specs.declared.module.Instr.TheVariants.{Unreachable, If, Else, End, Call, LocalGet, LocalSet, GlobalGet, GlobalSet, I32Const, I32LtU, I32Add, I32Sub}
 use Rattle.zw_wasm.specs.declared.module.Module.{Module}
 use Rattle.zw_wasm.specs.declared.module.ValType.{ValType}
 use Rattle.zw_wasm.specs.ModuleMachine.{begun, run_export, end_of, outcome_of, module_machine, export_in}
-use Rattle.zw_wasm.specs.Reduction.{Config, World, Store, Step, Next, Stops, Rests, Stop, Finished, Trap, NoReply, Run, Going, Ended, Action, Goes, CallsHost, Traps, Fetched, Found, Over, with_operand, on_two_i32, i32_add, act, replied, host_called, resolved, step_of, step, stands_in, fetched, at_bound, after_step, run}
+use Rattle.zw_wasm.specs.Functions.{func_type}
+use Rattle.zw_wasm.specs.Reduction.{Config, World, Store, Step, Next, Stops, Rests, Stop, Finished, Trap, NoReply, Run, Going, Ended, Work, Single, Chooses, Action, Goes, CallsHost, Traps, Fetched, Found, Over, with_operand, with_operands, on_operand, with_local, with_global, on_two_i32, i32_add, i32_sub, i32_lt_u, max_frames, entered, enter, called, act, chosen, done, replied, host_called, resolved, step_of, step, stands_in, fetched, at_bound, after_step, run}
 use Rattle.zw_wasm.specs.Signature.{Reading, View, shown_ranges}
-use Rattle.zw_wasm.specs.Structure.{Num, I32, I64}
+use Rattle.zw_wasm.specs.Structure.{Num, I32, I64, Code}
 
--- an action leaves the world as it is
-abbrev KeepsWorld : World → Action → Type 0
-KeepsWorld w (Goes c) = c.world ≡ w
-KeepsWorld w (CallsHost k args c) = c.world ≡ w
-KeepsWorld w (Traps code) = Unit {0}
+-- two worlds with the same host calls and the same replies that are left
+record SameRecord (u w : World) : Type 0 where
+  events : u.events ≡ w.events
+  replies : u.replies ≡ w.replies
 
-with_operand-keeps : (o : Option Num) (c : Config) → KeepsWorld c.world (with_operand o c)
+-- an action leaves the host calls and the replies as they are; only a host call adds to the record
+abbrev KeepsRecord : World → Action → Type 0
+KeepsRecord w (Goes c) = SameRecord c.world w
+KeepsRecord w (CallsHost k args c) = SameRecord c.world w
+KeepsRecord w (Traps code) = Unit {0}
+
+same_record : (w : World) → SameRecord w w
+same_record w = record { events = refl; replies = refl }
+
+either-keeps : (b : Bool) (w : World) (x y : Action) → KeepsRecord w x → KeepsRecord w y → KeepsRecord w (cond b x y)
+either-keeps true w x y h k = h
+either-keeps false w x y h k = k
+
+with_operand-keeps : (o : Option Num) (c : Config) → KeepsRecord c.world (with_operand o c)
 with_operand-keeps None c = tt
-with_operand-keeps (Some v) c = refl
+with_operand-keeps (Some v) c = same_record c.world
 
-on_two-keeps : (f : ℕ → ℕ → Num) (os : List Num) (c : Config) → KeepsWorld c.world (on_two_i32 f os c)
+on_operand-keeps : (go : Num → Config → Action) (os : List Num) (c : Config) → ((v : Num) (d : Config) → KeepsRecord d.world (go v d)) → KeepsRecord c.world (on_operand go os c)
+on_operand-keeps go [] c h = tt
+on_operand-keeps go (v ∷ os) c h = h v (with_operands os c)
+
+with_local-keeps : (n : ℕ) (v : Num) (c : Config) → KeepsRecord c.world (with_local n v c)
+with_local-keeps n v c = either-keeps (nat_lt n (length c.frame.locals)) c.world _ _ (same_record c.world) tt
+
+with_global-keeps : (n : ℕ) (v : Num) (c : Config) → KeepsRecord c.world (with_global n v c)
+with_global-keeps n v c =
+    let same : SameRecord (record c.world { store = record c.world.store { globals = slice_set c.world.store.globals n v } }) c.world = record { events = refl; replies = refl } in
+    either-keeps (nat_lt n (length c.world.store.globals)) c.world _ _ same tt
+
+on_two-keeps : (f : ℕ → ℕ → Num) (os : List Num) (c : Config) → KeepsRecord c.world (on_two_i32 f os c)
 on_two-keeps f [] c = tt
 on_two-keeps f (I64 y ∷ os) c = tt
 on_two-keeps f (I32 y ∷ []) c = tt
 on_two-keeps f (I32 y ∷ I64 x ∷ os) c = tt
-on_two-keeps f (I32 y ∷ I32 x ∷ os) c = refl
+on_two-keeps f (I32 y ∷ I32 x ∷ os) c = same_record c.world
 
-act-keeps : (i : Instr) (c : Config) → KeepsWorld c.world (act i c)
-act-keeps Unreachable c = tt
-act-keeps End c = tt
-act-keeps (LocalGet n) c = with_operand-keeps _ c
-act-keeps (I32Const z) c = refl
-act-keeps I32Add c = on_two-keeps i32_add c.frame.operands c
+entered-keeps : (b : Option CodeBody) (f : ℕ) (args : List Num) (c : Config) → KeepsRecord c.world (entered b f args c)
+entered-keeps None f args c = tt
+entered-keeps (Some b) f args c = same_record c.world
+
+enter-keeps : (m : Module) (f : ℕ) (args : List Num) (c : Config) → KeepsRecord c.world (enter m f args c)
+enter-keeps m f args c =
+    either-keeps (nat_lt f (length m.imports)) c.world _ _ (same_record c.world)
+    (either-keeps (nat_le max_frames (length c.below)) c.world _ _ tt (entered-keeps _ f args c))
+
+called-keeps : (m : Module) (f : ℕ) (t : Option FuncType) (c : Config) → KeepsRecord c.world (called m f t c)
+called-keeps m f None c = tt
+called-keeps m f (Some t) c =
+    either-keeps (nat_le (length t.params) (length c.frame.operands)) c.world _ _
+    (enter-keeps m f (reverse (take (length t.params) c.frame.operands)) (with_operands (drop (length t.params) c.frame.operands) c)) tt
+
+act-keeps : (m : Module) (i : Instr) (c : Config) → KeepsRecord c.world (act m i c)
+act-keeps m Unreachable c = tt
+act-keeps m (If result) c = tt
+act-keeps m Else c = tt
+act-keeps m End c = tt
+act-keeps m (Call f) c = called-keeps m f (func_type m f) c
+act-keeps m (LocalGet n) c = with_operand-keeps _ c
+act-keeps m (LocalSet n) c = on_operand-keeps (with_local n) c.frame.operands c (with_local-keeps n)
+act-keeps m (GlobalGet n) c = with_operand-keeps _ c
+act-keeps m (GlobalSet n) c = on_operand-keeps (with_global n) c.frame.operands c (with_global-keeps n)
+act-keeps m (I32Const z) c = same_record c.world
+act-keeps m I32LtU c = on_two-keeps i32_lt_u c.frame.operands c
+act-keeps m I32Add c = on_two-keeps i32_add c.frame.operands c
+act-keeps m I32Sub c = on_two-keeps i32_sub c.frame.operands c
+
+chosen-keeps : (result : Option ValType) (a b : Code) (v : Num) (c : Config) → KeepsRecord c.world (chosen result a b v c)
+chosen-keeps result a b (I32 n) c = either-keeps (nat_eq n 0) c.world _ _ (same_record c.world) (same_record c.world)
+chosen-keeps result a b (I64 n) c = tt
+
+done-keeps : (m : Module) (work : Work) (c : Config) → KeepsRecord c.world (done m work c)
+done-keeps m (Single i) c = act-keeps m i c
+done-keeps m (Chooses result a b) c = on_operand-keeps (chosen result a b) c.frame.operands c (chosen-keeps result a b)
 
 -- the host calls so far, after a step from this world
 abbrev step_events : World → Step → List HostEvent
@@ -54,19 +113,23 @@ replied-events None replies c w p = p
 replied-events (Some t) [] c w p = p
 replied-events (Some t) (r ∷ rs) c w p = p
 
-host_called-events : (shown : Option (List (List ℕ))) (m : Module) (v : View) (k : ℕ) (args : List Num) (c : Config) → IsPrefix c.world.events (step_events c.world (host_called shown m v k args c))
-host_called-events None m v k args c = prefix_same c.world.events
-host_called-events (Some shown) m v k args c = replied-events _ _ _ c.world (prefix_front c.world.events _)
+host_called-events : (shown : Option (List (List ℕ))) (m : Module) (v : View) (k : ℕ) (args : List Num) (c : Config) (w : World) → IsPrefix w.events c.world.events → IsPrefix w.events (step_events w (host_called shown m v k args c))
+host_called-events None m v k args c w p = p
+host_called-events (Some shown) m v k args c w p = replied-events _ _ _ w (prefix_trans p (prefix_front c.world.events _))
 
-resolved-events : (m : Module) (v : View) (w : World) (a : Action) → KeepsWorld w a → IsPrefix w.events (step_events w (resolved m v w a))
-resolved-events m v w (Goes c) e = subst (λ (u : World). IsPrefix w.events u.events) (sym e) (prefix_same w.events)
+-- the same host calls are a front of themselves
+same-prefix : {u w : World} → SameRecord u w → IsPrefix w.events u.events
+same-prefix {u} {w} s = subst (λ es. IsPrefix w.events es) (sym s.events) (prefix_same w.events)
+
+resolved-events : (m : Module) (v : View) (w : World) (a : Action) → KeepsRecord w a → IsPrefix w.events (step_events w (resolved m v w a))
+resolved-events m v w (Goes c) e = same-prefix e
 resolved-events m v w (CallsHost k args c) e =
-    subst (λ (u : World). IsPrefix u.events (step_events u (resolved m v w (CallsHost k args c)))) e
-    (host_called-events (shown_ranges (v.import_params k) args c.world.store.memory) m v k args c)
+    host_called-events (shown_ranges (v.import_params k) args c.world.store.memory) m v k args c w (same-prefix e)
 resolved-events m v w (Traps code) e = prefix_same w.events
 
 step_of-events : (m : Module) (v : View) (w : World) (f : Fetched) → IsPrefix w.events (step_events w (step_of m v w f))
-step_of-events m v w (Found i f below) = resolved-events m v w _ (act-keeps i (record { frame = f; below = below; world = w }))
+step_of-events m v w (Found work f below) =
+    resolved-events m v w _ (done-keeps m work (record { frame = f; below = below; world = w }))
 step_of-events m v w (Over results) = prefix_same w.events
 
 step-events : (m : Module) (v : View) (c : Config) → IsPrefix c.world.events (step_events c.world (step m v c))

@@ -13,12 +13,14 @@ use Rattle.zw_wasm.specs.declared.module.Element.{Element}
 use Rattle.zw_wasm.specs.declared.module.DataSegment.{DataSegment}
 use Rattle.zw_wasm.specs.declared.module.CodeBody.{CodeBody}
 use Rattle.zw_wasm.specs.declared.module.Instr.{Instr}
-use Rattle.zw_wasm.specs.declared.module.Instr.TheVariants.{Unreachable, End, LocalGet, I32Const, I32Add}
 use Rattle.zw_wasm.specs.declared.module.Module.{Module}
-use Rattle.zw_wasm.specs.Leb.{unsigned, signed}
-use Rattle.zw_wasm.specs.Spelling.{vector, byte_vector, value_type, result_type, function_type, bounds, limits, table_type, mutability, instruction, expression, function_import, global, export, element, local_run, body, code, data_segment, section, list_section, start_section, header, front_sections, back_sections, spelling}
-use Rattle.zw_wasm.specs.ModuleBytes.{ModuleBytes, InTurn, Byte, IsU32, EachInTurn, IsVector, IsByteVector, IsName, Sized, IsValueType, IsResultType, IsFunctionType, AreBounds, AreLimits, IsTableType, IsMutability, IsInstruction, IsExpression, EndsOnce, IsFunctionImport, IsGlobal, IsExport, IsElement, IsLocalRun, IsCode, IsDataSegment, IsSection, IsListSection, IsStartSection, Behind, AreFrontSections, AreBackSections}
-use Rattle.zw_wasm.specs.Fits.{Fits, Fits32, Countable, FitsVector, FitsSection, FitsValueType, FitsLimits, FitsInstruction, FitsExpression, FitsFunctionType, FitsImport, FitsGlobal, FitsExport, FitsElement, FitsRun, FitsCode, FitsData, FitsFront, FitsBack}
+use Rattle.zw_wasm.specs.declared.encode.instructions.Immediate.{Immediate}
+use Rattle.zw_wasm.specs.declared.encode.instructions.Immediate.TheVariants.{Nothing, BlockType, Index, Signed32}
+use Rattle.zw_wasm.specs.Leb.{unsigned}
+use Rattle.zw_wasm.specs.Opcodes.{opcode, immediate_of}
+use Rattle.zw_wasm.specs.Spelling.{vector, byte_vector, value_type, result_type, function_type, bounds, limits, table_type, mutability, block_type, immediate, instruction, expression, function_import, global, export, element, local_run, body, code, data_segment, section, list_section, start_section, header, front_sections, back_sections, spelling}
+use Rattle.zw_wasm.specs.ModuleBytes.{ModuleBytes, InTurn, Byte, IsU32, EachInTurn, IsVector, IsByteVector, IsName, Sized, IsValueType, IsResultType, IsFunctionType, AreBounds, AreLimits, IsTableType, IsMutability, IsBlockType, IsImmediate, IsInstruction, IsExpression, EndsOnce, IsFunctionImport, IsGlobal, IsExport, IsElement, IsLocalRun, IsCode, IsDataSegment, IsSection, IsListSection, IsStartSection, Behind, AreFrontSections, AreBackSections}
+use Rattle.zw_wasm.specs.Fits.{Fits, Fits32, Countable, FitsVector, FitsSection, FitsValueType, FitsLimits, FitsImmediate, FitsInstruction, FitsExpression, FitsFunctionType, FitsImport, FitsGlobal, FitsExport, FitsElement, FitsRun, FitsCode, FitsData, FitsFront, FitsBack}
 use Rattle.zw_wasm.specs.WellFormed.{IsWellFormed, HasNames, IsWellFormedExport, IsWellFormedCode}
 use Rattle.zw_wasm.proofs.LebSpellings.{below_32_bits}
 use Rattle.zw_wasm.proofs.ShortestNumbers.{unsigned_grows, unsigned_shortest, some_byte, signed_shortest, within_32_bits}
@@ -215,19 +217,30 @@ mutability_shortest true bytes p = byte_shortest 1 bytes p
 
 -- ---- instructions
 
+block_type_shortest : (o : Option ValType) (bytes : List ℕ) → IsBlockType o bytes → length (block_type o) ≤ length bytes
+block_type_shortest None bytes p = byte_shortest 0x40 bytes p
+block_type_shortest (Some t) bytes p = value_type_shortest t bytes p
+
+immediate_shortest : (a : Immediate) (bytes : List ℕ) → IsImmediate a bytes → length (immediate a) ≤ length bytes
+immediate_shortest Nothing bytes p = omega arith
+immediate_shortest (BlockType result) bytes p = block_type_shortest result bytes p
+immediate_shortest (Index index) bytes p = unsigned_shortest 32 bytes index p
+immediate_shortest (Signed32 z) bytes p = signed_shortest 32 bytes z p
+
+immediate_fits : (a : Immediate) (bytes : List ℕ) → IsImmediate a bytes → FitsImmediate a
+immediate_fits Nothing bytes p = tt
+immediate_fits (BlockType result) bytes p = tt
+immediate_fits (Index index) bytes p = below_32_bits bytes index p
+immediate_fits (Signed32 z) bytes p = within_32_bits bytes z p
+
 instruction_shortest : (i : Instr) (bytes : List ℕ) → IsInstruction i bytes → length (instruction i) ≤ length bytes
-instruction_shortest Unreachable bytes p = byte_shortest 0x00 bytes p
-instruction_shortest End bytes p = byte_shortest 0x0B bytes p
-instruction_shortest (LocalGet index) bytes t = both (0x20 ∷ []) (unsigned index) bytes t (byte_shortest 0x20 t.front t.first) (unsigned_shortest 32 t.back index t.second)
-instruction_shortest (I32Const z) bytes t = both (0x41 ∷ []) (signed z) bytes t (byte_shortest 0x41 t.front t.first) (signed_shortest 32 t.back z t.second)
-instruction_shortest I32Add bytes p = byte_shortest 0x6A bytes p
+instruction_shortest i bytes t =
+    both (opcode i ∷ []) (immediate (immediate_of i)) bytes t
+    (byte_shortest (opcode i) t.front t.first)
+    (immediate_shortest (immediate_of i) t.back t.second)
 
 instruction_fits : (i : Instr) (bytes : List ℕ) → IsInstruction i bytes → FitsInstruction i
-instruction_fits Unreachable bytes p = tt
-instruction_fits End bytes p = tt
-instruction_fits (LocalGet index) bytes t = below_32_bits t.back index t.second
-instruction_fits (I32Const z) bytes t = within_32_bits t.back z t.second
-instruction_fits I32Add bytes p = tt
+instruction_fits i bytes t = immediate_fits (immediate_of i) t.back t.second
 
 abbrev instructions : Kind Instr
 instructions = record {

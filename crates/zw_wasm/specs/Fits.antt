@@ -11,9 +11,11 @@ use Rattle.zw_wasm.specs.declared.module.Element.{Element}
 use Rattle.zw_wasm.specs.declared.module.DataSegment.{DataSegment}
 use Rattle.zw_wasm.specs.declared.module.CodeBody.{CodeBody}
 use Rattle.zw_wasm.specs.declared.module.Instr.{Instr}
-use Rattle.zw_wasm.specs.declared.module.Instr.TheVariants.{Unreachable, End, LocalGet, I32Const, I32Add}
 use Rattle.zw_wasm.specs.declared.module.Module.{Module}
+use Rattle.zw_wasm.specs.declared.encode.instructions.Immediate.{Immediate}
+use Rattle.zw_wasm.specs.declared.encode.instructions.Immediate.TheVariants.{Nothing, BlockType, Index, Signed32}
 use Rattle.zw_wasm.specs.Leb.{unsigned}
+use Rattle.zw_wasm.specs.Opcodes.{immediate_of}
 use Rattle.zw_wasm.specs.Spelling.{vector, function_type, table_type, limits, global, function_import, export, element, code, body, data_segment}
 
 -- a number of 32 bits
@@ -45,12 +47,14 @@ pub record FitsLimits (l : Limits) : Type 0 where
   pub least : Fits32 l.least
   pub greatest : IfSome l.greatest Fits32
 
+abbrev pub FitsImmediate : Immediate → Type 0
+FitsImmediate Nothing = Unit {0}
+FitsImmediate (BlockType result) = Unit {0}
+FitsImmediate (Index index) = Fits32 index
+FitsImmediate (Signed32 z) = FitsSigned w32 z
+
 abbrev pub FitsInstruction : Instr → Type 0
-FitsInstruction Unreachable = Unit {0}
-FitsInstruction End = Unit {0}
-FitsInstruction (LocalGet index) = Fits32 index
-FitsInstruction (I32Const z) = FitsSigned w32 z
-FitsInstruction I32Add = Unit {0}
+FitsInstruction i = FitsImmediate (immediate_of i)
 
 abbrev pub FitsExpression : List Instr → Type 0
 FitsExpression instrs = All FitsInstruction instrs

@@ -13,9 +13,12 @@ use Rattle.zw_wasm.specs.declared.module.Element.{Element}
 use Rattle.zw_wasm.specs.declared.module.DataSegment.{DataSegment}
 use Rattle.zw_wasm.specs.declared.module.CodeBody.{CodeBody}
 use Rattle.zw_wasm.specs.declared.module.Instr.{Instr}
-use Rattle.zw_wasm.specs.declared.module.Instr.TheVariants.{Unreachable, End, LocalGet, I32Const, I32Add}
+use Rattle.zw_wasm.specs.declared.module.Instr.TheVariants.{If, Else, End}
 use Rattle.zw_wasm.specs.declared.module.Module.{Module}
+use Rattle.zw_wasm.specs.declared.encode.instructions.Immediate.{Immediate}
+use Rattle.zw_wasm.specs.declared.encode.instructions.Immediate.TheVariants.{Nothing, BlockType, Index, Signed32}
 use Rattle.zw_wasm.specs.Leb.{IsUnsigned, IsSigned}
+use Rattle.zw_wasm.specs.Opcodes.{opcode, immediate_of}
 
 -- ---- what bytes may be
 
@@ -111,22 +114,36 @@ IsMutability true = Byte 0x01
 
 -- ---- instructions
 
+-- the type of a block's result, where it has one (5.4.1)
+abbrev pub IsBlockType : Option ValType → List ℕ → Type 0
+IsBlockType None = Byte 0x40
+IsBlockType (Some t) = IsValueType t
+
+-- what stands behind an opcode
+abbrev pub IsImmediate : Immediate → List ℕ → Type 0
+IsImmediate Nothing = Exactly []
+IsImmediate (BlockType result) = IsBlockType result
+IsImmediate (Index index) = IsU32 index
+IsImmediate (Signed32 z) = IsS32 z
+
 -- an instruction (5.4)
 abbrev pub IsInstruction : Instr → List ℕ → Type 0
-IsInstruction Unreachable = Byte 0x00
-IsInstruction End = Byte 0x0B
-IsInstruction (LocalGet index) = Byte 0x20 ⌢ IsU32 index
-IsInstruction (I32Const z) = Byte 0x41 ⌢ IsS32 z
-IsInstruction I32Add = Byte 0x6A
+IsInstruction i = Byte (opcode i) ⌢ IsImmediate (immediate_of i)
 
--- a list of instructions ends where its one end stands
+-- Instructions up to the end of the sequence that they are in, and nothing behind it. For each sequence inside it that
+-- is open stands whether its `else` may come: it may once, behind an `if` (5.4.1).
+abbrev pub ClosesIn : List Bool → List Instr → Type 0
+ClosesIn open_ifs [] = ⊥
+ClosesIn open_ifs (If result ∷ instrs) = ClosesIn (true ∷ open_ifs) instrs
+ClosesIn (true ∷ outer) (Else ∷ instrs) = ClosesIn (false ∷ outer) instrs
+ClosesIn open_ifs (Else ∷ instrs) = ⊥
+ClosesIn [] (End ∷ instrs) = instrs ≡ []
+ClosesIn (may_else ∷ outer) (End ∷ instrs) = ClosesIn outer instrs
+ClosesIn open_ifs (i ∷ instrs) = ClosesIn open_ifs instrs
+
+-- a list of instructions ends where its own end stands
 abbrev pub EndsOnce : List Instr → Type 0
-EndsOnce [] = ⊥
-EndsOnce (End ∷ instrs) = instrs ≡ []
-EndsOnce (Unreachable ∷ instrs) = EndsOnce instrs
-EndsOnce (LocalGet index ∷ instrs) = EndsOnce instrs
-EndsOnce (I32Const z ∷ instrs) = EndsOnce instrs
-EndsOnce (I32Add ∷ instrs) = EndsOnce instrs
+EndsOnce instrs = ClosesIn [] instrs
 
 -- an expression (5.4.6)
 pub record IsExpression (instrs : List Instr) (bytes : List ℕ) : Type 0 where

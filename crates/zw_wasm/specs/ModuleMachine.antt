@@ -18,7 +18,7 @@ use Rattle.zw_wasm.specs.declared.module.ValType.TheVariants as ty
 use Rattle.zw_wasm.specs.Reduction.{Store, World, Frame, Config, Step, Next, Stops, Rests, Stop, Finished, Trap, NoReply, Run, Going, Ended, enter, resolved, run, no_rule, unreachable_trap}
 use Rattle.zw_wasm.specs.Signature.{Reading, Signature, View, scalar_of, is_in_range, bytes_at}
 use Rattle.zw_wasm.specs.Structure.{Num, I32, I64, Ends, num_of, bits_of, word_of}
-use Rattle.zw_wasm.specs.Validity.{func_type}
+use Rattle.zw_wasm.specs.Functions.{func_type}
 
 -- the bits of a constant expression (4.4.8)
 abbrev pub constant_of : List Instr → ℕ

@@ -1,18 +1,19 @@
 -- Reduction: what a module's code does, one instruction at a time (WebAssembly Core Specification 1.0, chapter 4). A
 -- configuration holds the place in the code as labels and frames round it, so that a step looks at no more than what
 -- stands next.
-use Rattle.std.specs.Prelude.{ℕ, zero, suc, ◌+◌, ◌-◌, ◌%◌, ◌^◌, nat_le, nat_lt, List, [], ◌∷◌, ◌++◌, length, Option, Some, None, slice_get, if◌then◌else◌}
+use Rattle.std.specs.Prelude.{ℕ, zero, suc, ◌+◌, ◌-◌, ◌%◌, ◌^◌, nat_eq, nat_le, nat_lt, List, [], ◌∷◌, ◌++◌, length, take, drop, reverse, Option, Some, None, slice_get, slice_set, if◌then◌else◌}
+use Rattle.std.specs.Option.{option_to_list}
 use Rattle.zw_session.specs.Sessions.{HostEvent}
 use Rattle.zw_wasm.specs.declared.module.CodeBody.{CodeBody}
 use Rattle.zw_wasm.specs.declared.module.FuncImport.{FuncImport}
 use Rattle.zw_wasm.specs.declared.module.FuncType.{FuncType}
 use Rattle.zw_wasm.specs.declared.module.Instr.{Instr}
-use Rattle.zw_wasm.specs.declared.module.Instr.TheVariants.{Unreachable, End, LocalGet, I32Const, I32Add}
+use Rattle.zw_wasm.specs.declared.module.Instr.TheVariants.{Unreachable, If, Else, End, Call, LocalGet, LocalSet, GlobalGet, GlobalSet, I32Const, I32LtU, I32Add, I32Sub}
 use Rattle.zw_wasm.specs.declared.module.Module.{Module}
 use Rattle.zw_wasm.specs.declared.module.ValType.{ValType}
 use Rattle.zw_wasm.specs.Signature.{View, shown_scalars, shown_ranges}
-use Rattle.zw_wasm.specs.Structure.{Num, I32, Code, Ends, Plain, code_of, num_of, word_of, zeros}
-use Rattle.zw_wasm.specs.Validity.{func_type}
+use Rattle.zw_wasm.specs.Structure.{Num, I32, I64, Code, Ends, Plain, Choice, code_of, num_of, word_of, zeros}
+use Rattle.zw_wasm.specs.Functions.{func_type}
 
 -- What all frames share (4.2.3): the values of the globals, the bytes of the memory, and the table's functions, of
 -- which some may not be set.
@@ -79,29 +80,36 @@ frames_trap = 7
 abbrev pub max_frames : ℕ
 max_frames = 2100
 
--- what stands next in a frame, behind the ends of labels: an instruction, in the frame behind it; or the frame's end
+-- what is executed in one step: an instruction, or the choice that an `if` makes of two sequences
+pub data Work : Type 0 where
+  Single : (instr : Instr) → Work
+  Chooses : (result : Option ValType) (then_code else_code : Code) → Work
+
+-- what stands next in a frame, behind the ends of labels: some work, in the frame behind it; or the frame's end
 pub data Stands : Type 0 where
-  Instruction : (instr : Instr) (frame : Frame) → Stands
+  Does : (work : Work) (frame : Frame) → Stands
   Returns : (results : List Num) → Stands
 
--- An end takes no step (4.4.5, 4.4.7.2).
+-- An end takes no step (4.4.6.2, 4.4.7.2).
 abbrev pub stands_next : ℕ → List Num → Code → List Num → List Label → Stands
 stands_next f locals (Plain i rest) os ls =
-    Instruction i (record { func = f; locals = locals; operands = os; code = rest; labels = ls })
+    Does (Single i) (record { func = f; locals = locals; operands = os; code = rest; labels = ls })
+stands_next f locals (Choice result a b rest) os ls =
+    Does (Chooses result a b) (record { func = f; locals = locals; operands = os; code = rest; labels = ls })
 stands_next f locals Ends os (l ∷ ls) = stands_next f locals l.follows (os ++ l.below) ls
 stands_next f locals Ends os [] = Returns os
 
 abbrev pub stands_in : Frame → Stands
 stands_in f = stands_next f.func f.locals f.code f.operands f.labels
 
--- what comes next: an instruction, in the frame behind it over those below; or the end of the outermost frame
+-- what comes next: some work, in the frame behind it over those below; or the end of the outermost frame
 pub data Fetched : Type 0 where
-  Found : (instr : Instr) (frame : Frame) (below : List Frame) → Fetched
+  Found : (work : Work) (frame : Frame) (below : List Frame) → Fetched
   Over : (results : List Num) → Fetched
 
 -- the results of a frame are operands of the one below
 abbrev pub fetched : Stands → List Frame → Fetched
-fetched (Instruction i f) below = Found i f below
+fetched (Does work f) below = Found work f below
 fetched (Returns os) [] = Over os
 fetched (Returns os) (f ∷ below) = fetched (stands_in (record f { operands = os ++ f.operands })) below
 
@@ -124,6 +132,23 @@ with_operand (Some v) c = Goes (pushed v c)
 abbrev pub with_operands : List Num → Config → Config
 with_operands os c = record c { frame = record c.frame { operands = os } }
 
+-- the configuration without its last operand, which goes on
+abbrev pub on_operand : (Num → Config → Action) → List Num → Config → Action
+on_operand go [] c = Traps no_rule
+on_operand go (v ∷ os) c = go v (with_operands os c)
+
+-- the configuration in which the local, or the global, with this number has this value (4.4.3)
+abbrev pub with_local : ℕ → Num → Config → Action
+with_local n v c =
+    if nat_lt n (length c.frame.locals) then Goes (record c { frame = record c.frame { locals = slice_set c.frame.locals n v } })
+    else Traps no_rule
+
+abbrev pub with_global : ℕ → Num → Config → Action
+with_global n v c =
+    if nat_lt n (length c.world.store.globals)
+    then Goes (record c { world = record c.world { store = record c.world.store { globals = slice_set c.world.store.globals n v } } })
+    else Traps no_rule
+
 -- an operator on two i32 (4.4.1.3)
 abbrev pub on_two_i32 : (ℕ → ℕ → Num) → List Num → Config → Action
 on_two_i32 f (I32 y ∷ I32 x ∷ os) c = Goes (with_operands (f x y ∷ os) c)
@@ -133,13 +158,13 @@ on_two_i32 f _ c = Traps no_rule
 abbrev pub i32_add : ℕ → ℕ → Num
 i32_add x y = I32 ((x + y) % 2 ^ 32)
 
--- one instruction, in the configuration behind it (4.4)
-abbrev pub act : Instr → Config → Action
-act Unreachable c = Traps unreachable_trap
-act End c = Traps no_rule
-act (LocalGet n) c = with_operand (slice_get c.frame.locals n) c
-act (I32Const z) c = Goes (pushed (I32 (word_of z)) c)
-act I32Add c = on_two_i32 i32_add c.frame.operands c
+-- the difference modulo 2^32
+abbrev pub i32_sub : ℕ → ℕ → Num
+i32_sub x y = I32 ((x + (2 ^ 32 - y)) % 2 ^ 32)
+
+-- whether the first is less than the second, without signs
+abbrev pub i32_lt_u : ℕ → ℕ → Num
+i32_lt_u x y = I32 (if nat_lt x y then 1 else 0)
 
 -- a function's body, by the number among those that have one
 abbrev pub entered : Option CodeBody → ℕ → List Num → Config → Action
@@ -156,6 +181,50 @@ enter m f args c =
     if nat_lt f (length m.imports) then CallsHost f args c
     else (if nat_le max_frames (length c.below) then Traps frames_trap
     else entered (slice_get m.codes (f - length m.imports)) f args c)
+
+-- a call of a function with this type takes its arguments from the operands, the last first (4.4.5.10, 4.4.7.1)
+abbrev pub called : Module → ℕ → Option FuncType → Config → Action
+called m f None c = Traps no_rule
+called m f (Some t) c =
+    if nat_le (length t.params) (length c.frame.operands)
+    then enter m f (reverse (take (length t.params) c.frame.operands)) (with_operands (drop (length t.params) c.frame.operands) c)
+    else Traps no_rule
+
+-- one instruction, in the configuration behind it (4.4)
+abbrev pub act : Module → Instr → Config → Action
+act m Unreachable c = Traps unreachable_trap
+act m (If result) c = Traps no_rule
+act m Else c = Traps no_rule
+act m End c = Traps no_rule
+act m (Call f) c = called m f (func_type m f) c
+act m (LocalGet n) c = with_operand (slice_get c.frame.locals n) c
+act m (LocalSet n) c = on_operand (with_local n) c.frame.operands c
+act m (GlobalGet n) c = with_operand (slice_get c.world.store.globals n) c
+act m (GlobalSet n) c = on_operand (with_global n) c.frame.operands c
+act m (I32Const z) c = Goes (pushed (I32 (word_of z)) c)
+act m I32LtU c = on_two_i32 i32_lt_u c.frame.operands c
+act m I32Add c = on_two_i32 i32_add c.frame.operands c
+act m I32Sub c = on_two_i32 i32_sub c.frame.operands c
+
+-- Code under a label (4.4.6.1): it goes on with what follows, over the operands that are there.
+abbrev pub under_label : Option ValType → Code → Config → Config
+under_label result code c = record c {
+  frame = record c.frame {
+    operands = [];
+    code = code;
+    labels = record { arity = length (option_to_list result); branch = c.frame.code; follows = c.frame.code; below = c.frame.operands } ∷ c.frame.labels;
+  };
+}
+
+-- the first code where the operand isn't 0, else the second (4.4.5.5)
+abbrev pub chosen : Option ValType → Code → Code → Num → Config → Action
+chosen result a b (I32 n) c = if nat_eq n 0 then Goes (under_label result b c) else Goes (under_label result a c)
+chosen result a b (I64 n) c = Traps no_rule
+
+-- one step, in the configuration behind it
+abbrev pub done : Module → Work → Config → Action
+done m (Single i) c = act m i c
+done m (Chooses result a b) c = on_operand (chosen result a b) c.frame.operands c
 
 -- why a run ends
 pub data Stop : Type 0 where
@@ -205,7 +274,7 @@ resolved m v w (CallsHost k args c) =
 resolved m v w (Traps code) = Stops (Trap code) w
 
 abbrev pub step_of : Module → View → World → Fetched → Step
-step_of m v w (Found i f below) = resolved m v w (act i (record { frame = f; below = below; world = w }))
+step_of m v w (Found work f below) = resolved m v w (done m work (record { frame = f; below = below; world = w }))
 step_of m v w (Over results) = Rests results
 
 -- a step of a configuration, which it determines

@@ -13,9 +13,11 @@ use Rattle.zw_wasm.specs.declared.module.Element.{Element}
 use Rattle.zw_wasm.specs.declared.module.DataSegment.{DataSegment}
 use Rattle.zw_wasm.specs.declared.module.CodeBody.{CodeBody}
 use Rattle.zw_wasm.specs.declared.module.Instr.{Instr}
-use Rattle.zw_wasm.specs.declared.module.Instr.TheVariants.{Unreachable, End, LocalGet, I32Const, I32Add}
 use Rattle.zw_wasm.specs.declared.module.Module.{Module}
+use Rattle.zw_wasm.specs.declared.encode.instructions.Immediate.{Immediate}
+use Rattle.zw_wasm.specs.declared.encode.instructions.Immediate.TheVariants.{Nothing, BlockType, Index, Signed32}
 use Rattle.zw_wasm.specs.Leb.{unsigned, signed}
+use Rattle.zw_wasm.specs.Opcodes.{opcode, immediate_of}
 
 -- a list: the number of its items, and then these (5.1.3)
 abbrev pub vector : {X : Type 0} → (X → List ℕ) → List X → List ℕ
@@ -57,13 +59,21 @@ abbrev pub mutability : Bool → List ℕ
 mutability false = 0 ∷ []
 mutability true = 1 ∷ []
 
+-- the type of a block's result, where it has one (5.4.1)
+abbrev pub block_type : Option ValType → List ℕ
+block_type None = 0x40 ∷ []
+block_type (Some t) = value_type t
+
+-- what stands behind an opcode
+abbrev pub immediate : Immediate → List ℕ
+immediate Nothing = []
+immediate (BlockType result) = block_type result
+immediate (Index index) = unsigned index
+immediate (Signed32 z) = signed z
+
 -- an instruction (5.4)
 abbrev pub instruction : Instr → List ℕ
-instruction Unreachable = 0x00 ∷ []
-instruction End = 0x0B ∷ []
-instruction (LocalGet index) = 0x20 ∷ unsigned index
-instruction (I32Const z) = 0x41 ∷ signed z
-instruction I32Add = 0x6A ∷ []
+instruction i = opcode i ∷ immediate (immediate_of i)
 
 -- an expression (5.4.6), whose list of instructions has its end too
 abbrev pub expression : List Instr → List ℕ

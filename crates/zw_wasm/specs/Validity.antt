@@ -1,6 +1,6 @@
 -- Validity: which modules are valid (WebAssembly Core Specification 1.0, 3.4), as a function to the first violation.
 -- What stands outside bodies is checked first, in the order of sections and their entries; then the bodies.
-use Rattle.std.specs.Prelude.{◌≡◌, ℕ, suc, ◌+◌, Bool, true, false, not, ◌&&◌, nat_eq, nat_lt, nat_le, min, List, [], ◌∷◌, ◌++◌, map, length, take, replicate, Option, Some, None, slice_get, if◌then◌else◌}
+use Rattle.std.specs.Prelude.{◌≡◌, ℕ, suc, ◌+◌, Bool, true, false, not, ◌&&◌, nat_eq, nat_lt, nat_le, min, List, [], ◌∷◌, ◌++◌, length, take, replicate, Option, Some, None, if◌then◌else◌}
 use Rattle.std.specs.List.{list_all, list_any}
 use Rattle.std.specs.Option.{option_to_list}
 use Rattle.std.specs.Str.{bytes_eq}
@@ -18,6 +18,7 @@ use Rattle.zw_wasm.specs.declared.module.Module.{Module}
 use Rattle.zw_wasm.specs.declared.module.TheConstants.ExportDef.{FUNC, TABLE, MEMORY, GLOBAL}
 use Rattle.zw_wasm.specs.declared.module.ValType.{ValType}
 use Rattle.zw_wasm.specs.declared.module.ValType.TheVariants.{I32}
+use Rattle.zw_wasm.specs.Functions.{func_type, func_count}
 use Rattle.zw_wasm.specs.Typing.{Place, same_type, check_code, body_control}
 
 -- Where a module breaks a rule: an entry of a section outside bodies, both by number; or an instruction of a body, by
@@ -71,21 +72,6 @@ abbrev pub or_then : Option Violation → Option Violation → Option Violation
 or_then (Some v) next = Some v
 or_then None next = next
 
--- the numbers of the functions' types: imported functions come first (2.5.1)
-abbrev pub func_type_indices : Module → List ℕ
-func_type_indices m = map (λ (i : FuncImport). i.ty) m.imports ++ m.funcs
-
-abbrev pub type_at : Module → Option ℕ → Option FuncType
-type_at m None = None
-type_at m (Some k) = slice_get m.types k
-
--- the type of a function, by its number among the imported ones and those with a body
-abbrev pub func_type : Module → ℕ → Option FuncType
-func_type m f = type_at m (slice_get (func_type_indices m) f)
-
-abbrev pub func_count : Module → ℕ
-func_count m = length m.imports + length m.funcs
-
 -- the greatest size, where there is one, is at least the least (3.2.1)
 abbrev pub in_limits : ℕ → Option ℕ → Bool
 in_limits least None = true
@@ -114,7 +100,7 @@ is_constant_of t code = has_type (constant_type code)
     has_type None = false
     has_type (Some u) = same_type t u
 
--- what an export names is there (3.4.7)
+-- what an export names is there (3.4.8)
 abbrev pub export_is_there : Module → ExportDef → Bool
 export_is_there m e =
     if nat_eq e.kind FUNC then nat_lt e.index (func_count m)
@@ -130,7 +116,7 @@ abbrev pub is_start_type : Option FuncType → Bool
 is_start_type None = false
 is_start_type (Some t) = nat_eq (length t.params) 0 && nat_eq (length (option_to_list t.result)) 0
 
--- the function that runs first takes and gives nothing (3.4.8)
+-- the function that runs first takes and gives nothing (3.4.7)
 abbrev pub start_violation : Module → Option ℕ → Option Violation
 start_violation m None = None
 start_violation m (Some f) = if is_start_type (func_type m f) then None else Some (Outside start_section 0)

@@ -6,6 +6,7 @@ ghost use Rattle.zw_wasm.specs.Fits.{Fits32, Countable, FitsVector, FitsSection}
 ghost use Rattle.zw_wasm.specs.Leb.{unsigned};
 ghost use Rattle.zw_wasm.specs.Spelling.{vector, byte_vector, section, list_section};
 
+mod instructions;
 mod parts;
 mod sections;
 

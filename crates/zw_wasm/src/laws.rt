@@ -1,12 +1,13 @@
 // What holds of the definitions of bytes themselves: each law is the contract of a function that does nothing.
-ghost use Rattle.std.specs.Prelude.{◌≡◌, ℕ, ◌<◌, ◌≤◌, ◌^◌, ℤ, negsuc, List, [], ◌∷◌, ◌++◌, length, FitsSigned};
+ghost use Rattle.std.specs.Prelude.{◌≡◌, ℕ, ◌<◌, ◌≤◌, ◌^◌, ◌↔◌, ℤ, negsuc, List, [], ◌∷◌, ◌++◌, length, FitsSigned};
 ghost use Rattle.std.specs.Int.{w32};
+ghost use Rattle.zw_wasm.specs.declared.module.Instr.{Instr};
 ghost use Rattle.zw_wasm.specs.declared.module.Module.{Module};
 ghost use Rattle.zw_wasm.specs.Leb.{IsUnsigned, IsSigned, unsigned, signed};
 ghost use Rattle.zw_wasm.specs.Spelling.{spelling};
-ghost use Rattle.zw_wasm.specs.ModuleBytes.{ModuleBytes};
+ghost use Rattle.zw_wasm.specs.ModuleBytes.{ModuleBytes, EndsOnce};
 ghost use Rattle.zw_wasm.specs.Fits.{Fits};
-ghost use Rattle.zw_wasm.specs.WellFormed.{IsWellFormed};
+ghost use Rattle.zw_wasm.specs.WellFormed.{IsWellFormed, SequencesClose, IsEndedSequence, ExpressionsEnd};
 
 /// No spelling of a number begins another, so a number is read again whatever follows it.
 pub fn one_number()
@@ -40,4 +41,12 @@ pub fn no_shorter_module()
     ensures fits { (m : Module) (bytes : List ℕ) → ModuleBytes m bytes → Fits m }
     ensures spelled { (m : Module) (bytes : List ℕ) → ModuleBytes m bytes → ModuleBytes m (spelling m) }
     ensures shortest { (m : Module) (bytes : List ℕ) → ModuleBytes m bytes → length (spelling m) ≤ length bytes }
+{}
+
+/// Instructions are an expression where each `if` has its end, with at most one `else` before it, and their own end
+/// comes last. Lists that close themselves make one that does.
+pub fn sequences_close()
+    ensures compose { SequencesClose }
+    ensures grammar { (instrs : List Instr) → EndsOnce instrs ↔ IsEndedSequence instrs }
+    ensures examples { ExpressionsEnd }
 {}

@@ -11,15 +11,21 @@ mod reduce;
 mod writing;
 
 pub use execution::{
-    bodies_are_typed, module_calls_stay_ended, sequences_compose, sum_modules_are_right,
+    bodies_are_typed, calls_are_worked, code_is_structured, module_calls_stay_ended,
+    sequences_compose,
 };
-pub use laws::{longer_numbers, no_shorter_module, one_number, shortest_module, shortest_number};
+pub use laws::{
+    longer_numbers, no_shorter_module, one_number, sequences_close, shortest_module,
+    shortest_number,
+};
 pub use module::{
     CodeBody, DataSegment, Element, ExportDef, FuncImport, FuncType, GlobalDef, Instr, Limits,
     Module, ValType,
 };
 pub use num::Num;
-pub use reduce::{RunEnd, exported_function, run_function};
+pub use reduce::{
+    HostCall, RunEnd, RunState, exported_function, exported_global, first_globals, run_function,
+};
 pub use writing::write;
 
 #[cfg(test)]

@@ -87,14 +87,31 @@ pub struct CodeBody {
 pub enum Instr {
     /// Traps.
     Unreachable,
-    /// Ends a body or an expression.
+    /// Takes an `i32`, and begins code that runs where it isn't 0, up to an `Else` or `End`. The type is that of its
+    /// result, where it has one.
+    If(Option<ValType>),
+    /// Begins the code that runs where the `i32` was 0.
+    Else,
+    /// Ends a body, an expression, or what `If` began.
     End,
+    /// Calls the function with this number, among the imported ones and those with a body.
+    Call(u32),
     /// The value of the parameter or local with this number.
     LocalGet(u32),
+    /// Takes a value for the parameter or local with this number.
+    LocalSet(u32),
+    /// The value of the global with this number.
+    GlobalGet(u32),
+    /// Takes a value for the global with this number.
+    GlobalSet(u32),
     /// This number.
     I32Const(i32),
+    /// Whether the first of two `i32`, read without a sign, is less than the second: 1 or 0.
+    I32LtU,
     /// The sum of two `i32` modulo 2^32.
     I32Add,
+    /// The difference of two `i32` modulo 2^32.
+    I32Sub,
 }
 
 /// A module (2.5).

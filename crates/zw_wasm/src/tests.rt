@@ -149,6 +149,54 @@ fn the_rest(alloc: Global) -> Result<Module, Oom> {
     })
 }
 
+/// Each instruction, and numbers of more than one byte.
+fn each_instruction(alloc: Global) -> Result<Items<Instr>, Oom> {
+    let instrs = [
+        Instr::If(None),
+        Instr::Unreachable,
+        Instr::Else,
+        Instr::End,
+        Instr::If(Some(ValType::I32)),
+        Instr::End,
+        Instr::If(Some(ValType::I64)),
+        Instr::End,
+        Instr::Call(300),
+        Instr::LocalGet(1),
+        Instr::LocalSet(128),
+        Instr::GlobalGet(0),
+        Instr::GlobalSet(2),
+        Instr::I32Const(i32::MIN),
+        Instr::I32LtU,
+        Instr::I32Add,
+        Instr::I32Sub,
+        Instr::End,
+    ];
+    Items::from_slice(alloc, &instrs)
+}
+
+/// A module of one function with this code, and nothing else.
+fn only_code(alloc: Global, instrs: Items<Instr>) -> Result<Module, Oom> {
+    Ok(Module {
+        types: Items::new(alloc),
+        imports: Items::new(alloc),
+        funcs: one(alloc, 0)?,
+        tables: Items::new(alloc),
+        memories: Items::new(alloc),
+        globals: Items::new(alloc),
+        exports: Items::new(alloc),
+        start: None,
+        elements: Items::new(alloc),
+        codes: one(
+            alloc,
+            CodeBody {
+                locals: Items::new(alloc),
+                instrs,
+            },
+        )?,
+        datas: Items::new(alloc),
+    })
+}
+
 fn written(alloc: Global, m: &Module) -> Result<MemSink, Fail> {
     let mut sink = MemSink::new(alloc, Vec::new(alloc), 1000);
     write(alloc, m, &mut sink)?;
@@ -196,6 +244,32 @@ fn writes_the_other_sections(rt: HostRuntime) -> Result<(), Fail> {
         0x09, 0x09, 0x01, 0x00, 0x41, 0x00, 0x0B, 0x02, 0x01, 0xC8, 0x01,
         0x0A, 0x09, 0x01, 0x07, 0x02, 0xAC, 0x02, 0x7E, 0x01, 0x7F, 0x0B,
         0x0B, 0x09, 0x01, 0x00, 0x41, 0xBF, 0x7F, 0x0B, 0x02, b'h', b'i',
+    ];
+    assert_eq!(rt; sink.taken(), expected.as_slice());
+    Ok(())
+}
+
+// The bytes of each instruction as the tables of section 5.4 have them.
+#[rattlefmt::skip]
+#[test]
+fn writes_each_instruction(rt: HostRuntime) -> Result<(), Fail> {
+    let module = only_code(rt.alloc(), each_instruction(rt.alloc())?)?;
+    let sink = written(rt.alloc(), &module)?;
+    let expected: [u8; 50] = [
+        0x00, 0x61, 0x73, 0x6D, 0x01, 0x00, 0x00, 0x00,
+        0x03, 0x02, 0x01, 0x00,
+        0x0A, 0x24, 0x01, 0x22, 0x00,
+        0x04, 0x40, 0x00, 0x05, 0x0B,
+        0x04, 0x7F, 0x0B,
+        0x04, 0x7E, 0x0B,
+        0x10, 0xAC, 0x02,
+        0x20, 0x01,
+        0x21, 0x80, 0x01,
+        0x23, 0x00,
+        0x24, 0x02,
+        0x41, 0x80, 0x80, 0x80, 0x80, 0x78,
+        0x49, 0x6A, 0x6B,
+        0x0B,
     ];
     assert_eq!(rt; sink.taken(), expected.as_slice());
     Ok(())

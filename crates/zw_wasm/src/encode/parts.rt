@@ -1,13 +1,12 @@
 // The spelling of each record of a module.
-ghost use Rattle.zw_wasm.specs.Fits.{Fits32, FitsValueType, FitsFunctionType, FitsImport, FitsLimits, FitsGlobal, FitsExport, FitsElement, FitsRun, FitsCode, FitsData, FitsInstruction};
+ghost use Rattle.zw_wasm.specs.Fits.{Fits32, FitsValueType, FitsFunctionType, FitsImport, FitsLimits, FitsGlobal, FitsExport, FitsElement, FitsRun, FitsCode, FitsData};
 ghost use Rattle.zw_wasm.specs.Leb.{unsigned};
-ghost use Rattle.zw_wasm.specs.Spelling.{value_type, function_type, limits, global, function_import, export, element, local_run, code, data_segment, instruction, result_type};
+ghost use Rattle.zw_wasm.specs.Spelling.{value_type, function_type, limits, global, function_import, export, element, local_run, code, data_segment};
 
 use super::{Encode, push_bytes, push_each, push_vector};
-use crate::leb::{push_i32, push_u32};
+use crate::leb::push_u32;
 use crate::{
-    CodeBody, DataSegment, Element, ExportDef, FuncImport, FuncType, GlobalDef, Instr, Limits,
-    ValType,
+    CodeBody, DataSegment, Element, ExportDef, FuncImport, FuncType, GlobalDef, Limits, ValType,
 };
 use zw_base::Oom;
 
@@ -163,29 +162,6 @@ impl Encode for DataSegment {
         push_u32(out, self.memory)?;
         push_each(out, self.at.as_slice())?;
         push_bytes(out, self.bytes.as_slice())?;
-        Ok(())
-    }
-}
-
-impl Encode for Instr {
-    ghost bytes = { instruction };
-
-    ghost fits = { FitsInstruction };
-
-    fn encode(&self, out: &mut Vec<u8>) -> Result<(), Oom> {
-        match self {
-            Instr::Unreachable => out.push(0x00)?,
-            Instr::End => out.push(0x0B)?,
-            Instr::LocalGet(index) => {
-                out.push(0x20)?;
-                push_u32(out, *index)?;
-            }
-            Instr::I32Const(number) => {
-                out.push(0x41)?;
-                push_i32(out, *number)?;
-            }
-            Instr::I32Add => out.push(0x6A)?,
-        }
         Ok(())
     }
 }

@@ -3,4 +3,4 @@ use Rattle.zw_wasm.specs.Structure.{zeros}
 use Rattle.zw_wasm.proofs.reduce.locals_of.Given as goal
 
 abbrev pub invariant-loop-count : goal.invariant-loop-count
-invariant-loop-count l = l.locals.items ≡ l.args ++ zeros (take l.count-index l.runs)
+invariant-loop-count l = l.locals ≡ l.args ++ zeros (take l.count-index l.runs)

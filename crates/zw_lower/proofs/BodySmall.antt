@@ -1,0 +1,118 @@
+-- What evaluating gives is of 32 bits.
+use Rattle.std.proofs.Common.{◌≡◌, ℕ, ◌+◌, ◌-◌, ◌<◌, ◌^◌, Bool, true, false, List, [], ◌∷◌, ◌++◌, length, Some, None, refl, arith, All, Contains}
+use Rattle.std.proofs.lemmas.Bool.{ltb-true}
+use Rattle.std.proofs.lemmas.List.Elements.{All-nil, All-cons, All-head}
+use Rattle.std.specs.Prelude.{nat_lt, nat_le, if◌then◌else◌}
+use Rattle.std.specs.List.{flat_map}
+use Rattle.zw_form.specs.Form.{FitsStep}
+use Rattle.zw_form.specs.Rules.{IsKnown}
+use Rattle.zw_form.specs.Source.{Answer, Gives, Stops, operator_value, or_overflow, event_of, asked, gives, and_then, sum_value, operations_value, term_value, args_value, statements_done, body_value}
+use Rattle.zw_form.specs.Trees.{Sum, Terms, Operations, NoMore, Then, Term, Parameter, Result, Sums, NoSum, More, Body, count_of, sum_steps, operation_steps, term_steps, args_steps, statement_steps, body_steps}
+use Rattle.zw_form.specs.Trees as terms
+use Rattle.zw_form.specs.declared.source.ExternFunction.{ExternFunction}
+use Rattle.zw_form.specs.declared.source.Operator.{Operator}
+use Rattle.zw_form.specs.declared.source.Operator.TheVariants.{Add, Subtract, AddWrapping}
+use Rattle.zw_form.specs.declared.source.Step.{Step}
+use Rattle.zw_form.specs.declared.source.Step.TheVariants as step
+use Rattle.zw_lower.proofs.ComesCompose.{IfGives, if_gives-then}
+use Rattle.zw_lower.proofs.StepsReady.{all-left, all-right}
+use Rattle.zw_session.specs.Sessions.{HostEvent}
+
+-- a number of 32 bits
+abbrev pub IsSmall : ℕ → Type 0
+IsSmall n = n < 2 ^ 32
+
+-- numbers for so many arguments
+pub record AreArgs (count : ℕ) (numbers : List ℕ) : Type 0 where
+  pub count_is : length numbers ≡ count
+  pub small : All IsSmall numbers
+
+-- the values of parameters and the numbers of steps are of 32 bits
+pub record ReadsSmall (externs : List ExternFunction) (params : List (List ℕ)) (values : List ℕ → ℕ) (steps : List Step) : Type 0 where
+  pub params_are : (name : List ℕ) → Contains params name → values name < 2 ^ 32
+  pub known : All (IsKnown externs params) steps
+  pub fits : All FitsStep steps
+
+reads-left : {externs : List ExternFunction} {params : List (List ℕ)} {values : List ℕ → ℕ} → (steps others : List Step) → ReadsSmall externs params values (steps ++ others) → ReadsSmall externs params values steps
+reads-left {externs = externs} {params = params} steps others h =
+    record { params_are = h.params_are; known = all-left (IsKnown externs params) steps others h.known; fits = all-left FitsStep steps others h.fits }
+
+reads-right : {externs : List ExternFunction} {params : List (List ℕ)} {values : List ℕ → ℕ} → (steps others : List Step) → ReadsSmall externs params values (steps ++ others) → ReadsSmall externs params values others
+reads-right {externs = externs} {params = params} steps others h =
+    record { params_are = h.params_are; known = all-right (IsKnown externs params) steps others h.known; fits = all-right FitsStep steps others h.fits }
+
+sum_if-small : (b : Bool) (x y : ℕ) (left : List ℕ) → nat_lt (x + y) (2 ^ 32) ≡ b → IfGives IsSmall (or_overflow (if b then Some (x + y) else None) left).end
+sum_if-small true x y left e = ltb-true (x + y) (2 ^ 32) e
+sum_if-small false x y left e = tt
+
+difference_if-small : (b : Bool) (x y : ℕ) (left : List ℕ) → x < 2 ^ 32 → IfGives IsSmall (or_overflow (if b then Some (x - y) else None) left).end
+difference_if-small true x y left h = omega (arith, h)
+difference_if-small false x y left h = tt
+
+pub operator-small : (operator : Operator) (x y : ℕ) (left : List ℕ) → x < 2 ^ 32 → IfGives IsSmall (or_overflow (operator_value operator x y) left).end
+operator-small Add x y left h = sum_if-small (nat_lt (x + y) (2 ^ 32)) x y left refl
+operator-small Subtract x y left h = difference_if-small (nat_le y x) x y left h
+operator-small AddWrapping x y left h = omega arith
+
+asked-small : (event : HostEvent) (replies : List ℕ) → IfGives IsSmall (asked event replies).end
+asked-small event [] = tt
+asked-small event (reply ∷ replies) = omega arith
+
+-- any value
+abbrev pub IsAny : {V : Type 0} → V → Type 0
+IsAny value = Unit {0}
+
+pub gives-any : {V : Type 0} (end : Answer V) → IfGives IsAny end
+gives-any (Gives value left) = tt
+gives-any (Stops halt) = tt
+
+pub term-small : (externs : List ExternFunction) (params : List (List ℕ)) (values : List ℕ → ℕ) (t : Term) (replies : List ℕ) → ReadsSmall externs params values (term_steps t) → IfGives IsSmall (term_value values t replies).end
+term-small externs params values (Parameter name) replies h =
+    h.params_are name (All-head (IsKnown externs params) (step.Parameter name) [] h.known)
+term-small externs params values (terms.Number n) replies h = All-head FitsStep (step.Number n) [] h.fits
+term-small externs params values (Result callee args) replies h =
+    let r = args_value values args replies in
+    if_gives-then IsAny IsSmall r.events r.end (λ numbers left. asked (event_of callee numbers) left) (gives-any r.end) (λ numbers left any. asked-small (event_of callee numbers) left)
+
+pub operations-small : (externs : List ExternFunction) (params : List (List ℕ)) (values : List ℕ → ℕ) (others : Operations) (total : ℕ) (replies : List ℕ) → ReadsSmall externs params values (operation_steps others) → total < 2 ^ 32 → IfGives IsSmall (operations_value values others total replies).end
+operations-small externs params values NoMore total replies h small = small
+operations-small externs params values (Then operator term others) total replies h small =
+    let r = term_value values term replies in
+    let behind_term = reads-right (term_steps term) (step.Operate operator ∷ operation_steps others) h in
+    let behind = reads-right (step.Operate operator ∷ []) (operation_steps others) behind_term in
+    let next = λ (value : ℕ) (more : List ℕ). operations_value values others value more in
+    if_gives-then IsSmall IsSmall r.events r.end (λ right left. and_then (or_overflow (operator_value operator total right) left) next)
+    (term-small externs params values term replies (reads-left (term_steps term) (step.Operate operator ∷ operation_steps others) h))
+    (λ right left right_is.
+    let o = or_overflow (operator_value operator total right) left in
+    if_gives-then IsSmall IsSmall o.events o.end next (operator-small operator total right left small)
+    (λ value more value_is. operations-small externs params values others value more behind value_is))
+
+pub sum-small : (externs : List ExternFunction) (params : List (List ℕ)) (values : List ℕ → ℕ) (s : Sum) (replies : List ℕ) → ReadsSmall externs params values (sum_steps s) → IfGives IsSmall (sum_value values s replies).end
+sum-small externs params values (Terms first others) replies h =
+    let r = term_value values first replies in
+    if_gives-then IsSmall IsSmall r.events r.end (λ total left. operations_value values others total left)
+    (term-small externs params values first replies (reads-left (term_steps first) (operation_steps others) h))
+    (λ total left small. operations-small externs params values others total left (reads-right (term_steps first) (operation_steps others) h) small)
+
+args-more : (count n : ℕ) (numbers : List ℕ) → n < 2 ^ 32 → AreArgs count numbers → AreArgs (count + 1) (n ∷ numbers)
+args-more count n numbers small h =
+    record { count_is = omega (arith, h.count_is); small = All-cons IsSmall n numbers small h.small }
+
+pub args-small : (externs : List ExternFunction) (params : List (List ℕ)) (values : List ℕ → ℕ) (args : Sums) (replies : List ℕ) → ReadsSmall externs params values (args_steps args) → IfGives (AreArgs (count_of args)) (args_value values args replies).end
+args-small externs params values NoSum replies h = record { count_is = refl; small = All-nil IsSmall }
+args-small externs params values (More sum others) replies h =
+    let r = sum_value values sum replies in
+    if_gives-then IsSmall (AreArgs (count_of others + 1)) r.events r.end (λ n left. and_then (args_value values others left) (λ numbers more. gives (n ∷ numbers) more))
+    (sum-small externs params values sum replies (reads-left (sum_steps sum) (args_steps others) h))
+    (λ n left n_is.
+    let a = args_value values others left in
+    if_gives-then (AreArgs (count_of others)) (AreArgs (count_of others + 1)) a.events a.end (λ numbers more. gives (n ∷ numbers) more)
+    (args-small externs params values others left (reads-right (sum_steps sum) (args_steps others) h))
+    (λ numbers more are. args-more (count_of others) n numbers n_is are))
+
+pub body-small : (externs : List ExternFunction) (params : List (List ℕ)) (values : List ℕ → ℕ) (b : Body) (replies : List ℕ) → ReadsSmall externs params values (body_steps b) → IfGives IsSmall (body_value values b replies).end
+body-small externs params values b replies h =
+    let r = statements_done values b.statements replies in
+    if_gives-then IsAny IsSmall r.events r.end (λ done left. sum_value values b.sum left) (gives-any r.end)
+    (λ done left any. sum-small externs params values b.sum left (reads-right (flat_map statement_steps b.statements) (sum_steps b.sum) h))

@@ -1,0 +1,4 @@
+pub mod Locals
+pub mod Panics
+pub mod CheckedRuns
+pub mod CheckedTypes

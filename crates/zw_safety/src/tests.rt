@@ -1,0 +1,27 @@
+// The code of each operator is appended behind what is there.
+use crate::checked;
+use std::test::Fail;
+use zw_num::IntTy;
+use zw_num::op::{ADD, ADD_WRAP, SUB};
+use zw_wasm::Instr;
+
+const U32: IntTy = IntTy::Sized {
+    signed: false,
+    bits: 32,
+};
+
+#[test]
+fn code_is_appended(rt: HostRuntime) -> Result<(), Fail> {
+    let alloc = rt.alloc();
+    let mut code = vec![in alloc; Instr::I32Const(7)]?;
+    checked(alloc, ADD_WRAP, U32, U32, U32, 2, &mut code)?;
+    assert_eq!(rt;
+        code.as_slice(),
+        [Instr::I32Const(7), Instr::I32Add].as_slice()
+    );
+    checked(alloc, ADD, U32, U32, U32, 2, &mut code)?;
+    assert_eq!(rt; code.last(), Some(&Instr::LocalGet(2)));
+    checked(alloc, SUB, U32, U32, U32, 4_294_967_287, &mut code)?;
+    assert_eq!(rt; code.last(), Some(&Instr::I32Sub));
+    Ok(())
+}
