@@ -3,6 +3,7 @@ use Rattle.std.specs.Prelude.{ℕ, ◌%◌, ◌^◌, pos, negsuc, Bool, false, �
 use Rattle.std.specs.List.{list_all}
 use Rattle.std.specs.Str.{bytes_eq}
 use Rattle.zw_num.specs.Arithmetic.{sum_in, difference_in, add_wrap_unsigned}
+use Rattle.zw_session.specs.Causes.{integer_overflow}
 use Rattle.zw_session.specs.Sessions.{Scalar, Number, Truth, HostEvent, Call, Halt, Panicked, WantsReply, Wild, CallEnd, Returned, Halted, Outcome, Machine}
 use Rattle.zw_form.specs.Trees.{Sum, Terms, Operations, NoMore, Then, Term, Parameter, Result, Sums, NoSum, More, CallStatement, Body, Tree, Extern, Export}
 use Rattle.zw_form.specs.Trees as terms
@@ -36,10 +37,6 @@ goes_on events (Stops halt) go = record { events = events; end = Stops halt }
 -- one thing, and then another with its value
 abbrev pub and_then : {V W : Type 0} → Evaluated V → (V → List ℕ → Evaluated W) → Evaluated W
 and_then r go = goes_on r.events r.end go
-
--- the cause of a panic where an exact result isn't in its type
-abbrev pub integer_overflow : ℕ
-integer_overflow = 1
 
 -- the value of an operator on `u32`, or none where its exact result isn't in the type
 abbrev pub operator_value : Operator → ℕ → ℕ → Option ℕ

@@ -1,6 +1,5 @@
 //! The form of a file that is built by now: extern functions, and exported functions that call them and whose result is a
-//! sum. The crate knows nothing of modules. A later stage puts the grammar and the analysis of the whole language in its
-//! place.
+//! sum. The crate knows nothing of modules. The grammar and the analysis of the whole language will come in its place.
 #![tactic(auto)]
 
 mod laws;

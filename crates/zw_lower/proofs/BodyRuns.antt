@@ -13,9 +13,9 @@ use Rattle.zw_form.specs.declared.source.Step.{Step}
 use Rattle.zw_form.specs.declared.source.Step.TheVariants as step
 use Rattle.zw_lower.proofs.BodySmall.{AreArgs, IsSmall, IsAny, gives-any, ReadsSmall, operator-small, term-small, sum-small, args-small, body-small}
 use Rattle.zw_lower.proofs.ComesCompose.{gone_on, IfGives, comes-then}
-use Rattle.zw_lower.proofs.HostCalls.{words}
-use Rattle.zw_lower.proofs.Running.{Comes, Imports, Placed, one_number, numbers_reversed, steps_code}
-use Rattle.zw_lower.proofs.StepsReady.{all-right, Ready, ready-left, ready-right, ready-args, ready-on}
+use Rattle.zw_lower.proofs.Running.{Comes, Imports, Placed, one_number, numbers_reversed, steps_code, words}
+use Rattle.zw_lower.proofs.ListLemmas.{All-right}
+use Rattle.zw_lower.proofs.StepsReady.{Ready, ready-left, ready-right, ready-args, ready-on}
 use Rattle.zw_lower.proofs.StepsRun.{StepsCome, steps-then, called, no_numbers, nothing-comes, parameter-comes, number-comes, operator-comes, call-comes, call-told}
 use Rattle.zw_wasm.specs.declared.module.Instr.{Instr}
 use Rattle.zw_wasm.specs.declared.module.Module.{Module}
@@ -30,7 +30,7 @@ reads : {m : Module} {v : View} {externs : List ExternFunction} {imports params 
 reads h = record { params_are = h.at.small; known = h.known; fits = h.fits }
 
 last-known : (externs : List ExternFunction) (params : List (List ℕ)) (steps : List Step) (last : Step) → All (IsKnown externs params) (steps ++ last ∷ []) → IsKnown externs params last
-last-known externs params steps last h = All-head (IsKnown externs params) last [] (all-right (IsKnown externs params) steps (last ∷ []) h)
+last-known externs params steps last h = All-head (IsKnown externs params) last [] (All-right (IsKnown externs params) steps (last ∷ []) h)
 
 -- the first number lies below the others
 numbers-below : (n : ℕ) (ns : List ℕ) (os : List Num) → numbers_reversed ns ++ (I32 n ∷ os) ≡ numbers_reversed (n ∷ ns) ++ os

@@ -15,7 +15,7 @@ use Rattle.zw_form.specs.declared.source.Operator.TheVariants.{Add, Subtract, Ad
 use Rattle.zw_form.specs.declared.source.Step.{Step}
 use Rattle.zw_form.specs.declared.source.Step.TheVariants as step
 use Rattle.zw_lower.proofs.ComesCompose.{IfGives, if_gives-then}
-use Rattle.zw_lower.proofs.StepsReady.{all-left, all-right}
+use Rattle.zw_lower.proofs.ListLemmas.{All-left, All-right}
 use Rattle.zw_session.specs.Sessions.{HostEvent}
 
 -- a number of 32 bits
@@ -35,11 +35,11 @@ pub record ReadsSmall (externs : List ExternFunction) (params : List (List ℕ))
 
 reads-left : {externs : List ExternFunction} {params : List (List ℕ)} {values : List ℕ → ℕ} → (steps others : List Step) → ReadsSmall externs params values (steps ++ others) → ReadsSmall externs params values steps
 reads-left {externs = externs} {params = params} steps others h =
-    record { params_are = h.params_are; known = all-left (IsKnown externs params) steps others h.known; fits = all-left FitsStep steps others h.fits }
+    record { params_are = h.params_are; known = All-left (IsKnown externs params) steps others h.known; fits = All-left FitsStep steps others h.fits }
 
 reads-right : {externs : List ExternFunction} {params : List (List ℕ)} {values : List ℕ → ℕ} → (steps others : List Step) → ReadsSmall externs params values (steps ++ others) → ReadsSmall externs params values others
 reads-right {externs = externs} {params = params} steps others h =
-    record { params_are = h.params_are; known = all-right (IsKnown externs params) steps others h.known; fits = all-right FitsStep steps others h.fits }
+    record { params_are = h.params_are; known = All-right (IsKnown externs params) steps others h.known; fits = All-right FitsStep steps others h.fits }
 
 sum_if-small : (b : Bool) (x y : ℕ) (left : List ℕ) → nat_lt (x + y) (2 ^ 32) ≡ b → IfGives IsSmall (or_overflow (if b then Some (x + y) else None) left).end
 sum_if-small true x y left e = ltb-true (x + y) (2 ^ 32) e

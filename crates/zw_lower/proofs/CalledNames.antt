@@ -1,18 +1,11 @@
 -- The names that a file's exports call: each call's name is among them, and each of them is the name of a call.
-use Rattle.std.proofs.Common.{◌≡◌, ◌⊎◌, inl, inr, ℕ, suc, Bool, true, false, cond, List, [], ◌∷◌, Some, All, Contains, refl, ap, subst, arith}
-use Rattle.std.specs.Prelude.{slice_get}
-use Rattle.std.specs.List.{flat_map, list_any}
-use Rattle.std.specs.Str.{bytes_eq}
+use Rattle.std.proofs.Common.{ℕ, true, false, List, [], ◌∷◌, All}
+use Rattle.std.specs.List.{flat_map}
 use Rattle.std.proofs.lemmas.List.Elements.{All-nil, All-cons, All-head, All-tail, All-append}
-use Rattle.std.proofs.lemmas.Map.Views.{Contains-from_any}
-use Rattle.std.proofs.lemmas.Slice.Eq.{bytes_eq-Decides}
-use Rattle.zw_form.specs.Programs.{number_in, first_of_each}
 use Rattle.zw_form.specs.Trees.{Sum, Terms, Operations, NoMore, Then, Term, Parameter, Number, Result, Sums, NoSum, More, CallStatement, Body, count_of, sum_steps, operation_steps, term_steps, args_steps, statement_steps, body_steps, sum_callees, operation_callees, term_callees, args_callees, statement_callees, body_callees}
 use Rattle.zw_form.specs.declared.source.Step.{Step}
 use Rattle.zw_form.specs.declared.source.Step.TheVariants as step
-use Rattle.zw_lower.proofs.ListParts.{All-left, All-right, Contains-cases, Contains-head, Contains-tail}
-
--- ---- calls
+use Rattle.zw_lower.proofs.ListLemmas.{All-left, All-right}
 
 -- what holds of the name that a step calls, where it calls one
 abbrev pub OfCall : (List ℕ → Type 0) → Step → Type 0
@@ -124,60 +117,3 @@ body_called P b h =
     All-append P (flat_map statement_callees b.statements) (sum_callees b.sum)
     (statements_called P b.statements (All-left (OfCall P) steps (sum_steps b.sum) h))
     (sum_called P b.sum (All-right (OfCall P) steps (sum_steps b.sum) h))
-
--- ---- each name once
-
-same_bytes : (x y : List ℕ) → bytes_eq x y ≡ true → x ≡ y
-same_bytes x y = (bytes_eq-Decides x y).0
-
--- a name among them is seen or is kept
-kept_or_seen_at : (b : Bool) (seen names : List (List ℕ)) (n x : List ℕ) → list_any (bytes_eq n) seen ≡ b → (Contains names x → Contains seen x ⊎ Contains (first_of_each seen names) x) → (Contains names x → Contains (n ∷ seen) x ⊎ Contains (first_of_each (n ∷ seen) names) x) → Contains (n ∷ names) x → Contains seen x ⊎ Contains (cond b (first_of_each seen names) (n ∷ first_of_each (n ∷ seen) names)) x
-kept_or_seen_at true seen names n x e old new h =
-    elim (Contains-cases n names x h) [
-      | inl same ↦ inl (subst (λ (y : List ℕ). Contains seen y) same (Contains-from_any same_bytes n seen e))
-      | inr behind ↦ old behind
-    ]
-kept_or_seen_at false seen names n x e old new h =
-    let rest = first_of_each (n ∷ seen) names in
-    let here : n ≡ x → Contains (n ∷ rest) x = λ same. subst (λ (y : List ℕ). Contains (n ∷ rest) y) same (Contains-head n rest) in
-    elim (Contains-cases n names x h) [
-      | inl same ↦ inr (here same)
-      | inr behind ↦ elim (new behind) [
-        | inl s ↦ elim (Contains-cases n seen x s) [ inl same ↦ inr (here same) | inr before ↦ inl before ]
-        | inr kept ↦ inr (Contains-tail n rest x kept)
-      ]
-    ]
-
-kept_or_seen : (seen names : List (List ℕ)) (x : List ℕ) → Contains names x → Contains seen x ⊎ Contains (first_of_each seen names) x
-kept_or_seen seen [] x h = absurd (omega (arith, h.1))
-kept_or_seen seen (n ∷ names) x h = kept_or_seen_at (list_any (bytes_eq n) seen) seen names n x refl (kept_or_seen seen names x) (kept_or_seen (n ∷ seen) names x) h
-
--- each name is kept once
-pub name_is_kept : (names : List (List ℕ)) (x : List ℕ) → Contains names x → Contains (first_of_each [] names) x
-name_is_kept names x h = elim (kept_or_seen [] names x h) [ inl seen ↦ absurd (omega (arith, seen.1)) | inr kept ↦ kept ]
-
--- and no other
-kept_are_at : (b : Bool) (P : List ℕ → Type 0) (n : List ℕ) (old new : List (List ℕ)) → P n → All P old → All P new → All P (cond b old (n ∷ new))
-kept_are_at true P n old new here olds news = olds
-kept_are_at false P n old new here olds news = All-cons P n new here news
-
-pub kept_are : (P : List ℕ → Type 0) (seen names : List (List ℕ)) → All P names → All P (first_of_each seen names)
-kept_are P seen [] h = h
-kept_are P seen (n ∷ names) h =
-    let rest = All-tail P n names h in
-    kept_are_at (list_any (bytes_eq n) seen) P n (first_of_each seen names) (first_of_each (n ∷ seen) names) (All-head P n names h) (kept_are P seen names rest) (kept_are P (n ∷ seen) names rest)
-
--- ---- a name's number
-
-number_is_at : (b : Bool) (other name : List ℕ) (names : List (List ℕ)) → bytes_eq other name ≡ b → (Contains names name → slice_get names (number_in names name) ≡ Some name) → Contains (other ∷ names) name → slice_get (other ∷ names) (cond b 0 (suc (number_in names name))) ≡ Some name
-number_is_at true other name names e there h = ap (λ (x : List ℕ). Some x) (same_bytes other name e)
-number_is_at false other name names e there h =
-    elim (Contains-cases other names name h) [
-      | inl same ↦ let equal : bytes_eq other name ≡ true = (bytes_eq-Decides other name).1 same in absurd (cc)
-      | inr behind ↦ there behind
-    ]
-
--- the name with a name's number is that name
-pub number_is : (names : List (List ℕ)) (name : List ℕ) → Contains names name → slice_get names (number_in names name) ≡ Some name
-number_is [] name h = absurd (omega (arith, h.1))
-number_is (other ∷ names) name h = number_is_at (bytes_eq other name) other name names refl (number_is names name) h

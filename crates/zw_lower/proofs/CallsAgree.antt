@@ -1,22 +1,22 @@
 -- The module of a file does what the file means: call by call, and so session by session.
-use Rattle.std.proofs.Common.{◌≡◌, ℕ, ◌+◌, ◌<◌, ◌^◌, pos, true, List, [], ◌∷◌, ◌++◌, length, map, Option, Some, None, All, Contains, is_some, codes, refl, sym, ap, ◌∙◌, subst, arith}
+use Rattle.std.proofs.Common.{◌≡◌, ℕ, ◌+◌, ◌<◌, ◌^◌, pos, true, List, [], ◌∷◌, ◌++◌, length, map, Option, Some, None, is_some, codes, refl, sym, ap, ◌∙◌, subst, arith}
 use Rattle.std.specs.Prelude.{slice_get}
 use Rattle.std.specs.List.{flat_map}
 use Rattle.std.proofs.Math.Nat.{mod-eq_of_lt}
 use Rattle.std.proofs.lemmas.Bool.{and_from}
-use Rattle.zw_form.specs.Form.{FitsStep, IsSmall}
+use Rattle.std.proofs.lemmas.List.Folds.{flat_map-map}
+use Rattle.zw_form.specs.Form.{IsSmall}
 use Rattle.zw_form.specs.Programs.{called_in, action_of, function_of}
-use Rattle.zw_form.specs.Rules.{externs_of, IsKnown, KeepsRules}
+use Rattle.zw_form.specs.Rules.{externs_of, KeepsRules}
 use Rattle.zw_form.specs.Source.{Answer, Gives, Stops, Exported, export_named, body_value, value_of, args_fit, called, call_end, outcome_of, source_machine}
-use Rattle.zw_form.specs.Trees.{Body, Tree, body_steps, body_callees, declaration_of}
-use Rattle.zw_form.specs.declared.source.ExternFunction.{ExternFunction}
+use Rattle.zw_form.specs.Trees.{Tree, body_steps, declaration_of}
 use Rattle.zw_lower.specs.Modules.{action_code, body_of}
 use Rattle.zw_lower.specs.Views.{signature_of, view_of}
+use Rattle.zw_lower.proofs.BodyRuns.{body_comes, body_small}
 use Rattle.zw_lower.proofs.Entry.{Fitting, fitting, args_too, args_become, value_below, entry_placed}
 use Rattle.zw_lower.proofs.ExportFacts.{in_steps, IsBuilt, is_built, cause_exported, pointer_exported, count_exported}
-use Rattle.zw_lower.proofs.ListFacts.{flat_map-map}
-use Rattle.zw_lower.proofs.ModuleFacts.{file_module, imports_hold}
-use Rattle.zw_lower.proofs.Running.{steps_code, Imports, Placed, after_calls, GoesOn, HaltsSo, PanicsSo, Comes, one_number}
+use Rattle.zw_lower.proofs.FileImports.{file_module, imports_hold}
+use Rattle.zw_lower.proofs.Running.{steps_code, after_calls, GoesOn, HaltsSo, PanicsSo, Comes, one_number}
 use Rattle.zw_safety.specs.Checked.{HasPanicState, panic_globals}
 use Rattle.zw_session.proofs.Lifting.{agrees_by_calls}
 use Rattle.zw_session.specs.Agrees.{Agrees, AgreesOnCalls, CallAgrees, ReturnsToo}
@@ -24,9 +24,7 @@ use Rattle.zw_session.specs.Sessions.{Scalar, Number, HostEvent, Call, Panicked,
 use Rattle.zw_wasm.proofs.Calls.{world_before, entry_of, call-returns, call-halts}
 use Rattle.zw_wasm.proofs.MachineLasts.{machine-stays_ended}
 use Rattle.zw_wasm.specs.declared.module.CodeBody.{CodeBody}
-use Rattle.zw_wasm.specs.declared.module.Instr.{Instr}
 use Rattle.zw_wasm.specs.declared.module.Instr.TheVariants.{End}
-use Rattle.zw_wasm.specs.declared.module.Module.{Module}
 use Rattle.zw_wasm.specs.declared.num.Num.{Num}
 use Rattle.zw_wasm.specs.declared.num.Num.TheVariants.{I32}
 use Rattle.zw_wasm.specs.Functions.{func_type}
@@ -34,14 +32,7 @@ use Rattle.zw_wasm.specs.ModuleMachine.{first_store, module_machine, call_fits, 
 use Rattle.zw_wasm.specs.ModuleMachine.{value_of as value_shown}
 use Rattle.zw_wasm.specs.Reduction.{Config, World, Store, Trap, NoReply, unreachable_trap}
 use Rattle.zw_wasm.specs.Sequences.{placed}
-use Rattle.zw_wasm.specs.Signature.{View}
 use Rattle.zw_wasm.specs.Structure.{Ends, code_of}
-
--- What is known of the code of each body: it comes out beside what the body evaluates to, and a value is one of `u32`.
-pub record BodiesCome : Type 0 where
-  pub comes : (m : Module) (v : View) (externs : List ExternFunction) (imports params : List (List ℕ)) (values : List ℕ → ℕ) (b : Body) (c : Config) (os : List Num) (rest : List Instr) → Imports m v externs imports → All (IsKnown externs params) (body_steps b) → All FitsStep (body_steps b) → All (Contains imports) (body_callees b) → Placed imports params values (body_steps b) c →
-      Comes m v params one_number (body_value values b c.world.replies).events (body_value values b c.world.replies).end (placed (code_of (steps_code imports params (body_steps b) ++ rest)) os c) (code_of rest) os
-  pub small : (externs : List ExternFunction) (params : List (List ℕ)) (values : List ℕ → ℕ) (b : Body) (replies : List ℕ) (n : ℕ) (left : List ℕ) → ((name : List ℕ) → Contains params name → values name < 2 ^ 32) → All (IsKnown externs params) (body_steps b) → All FitsStep (body_steps b) → (body_value values b replies).end ≡ Gives n left → n < 2 ^ 32
 
 -- the three globals of a panic's state, which are numbers
 pub record HoldsState (store : Store) : Type 0 where
@@ -136,8 +127,8 @@ module _ (trees : List Tree) (call : Call) (f : Exported) (built : IsBuilt trees
   call_comes n events (Stops (Trapped code)) state named small h = absurd h
 
   -- the body comes out from its entry
-  entry_comes : BodiesCome → KeepsRules (map declaration_of trees) → HoldsState store → Fitting f call.args → Comes (file_module trees) (view_of trees (file_module trees)) f.params one_number (body_value (value_of f.params call.args) f.body replies).events (body_value (value_of f.params call.args) f.body replies).end entry Ends []
-  entry_comes bodies rules state fit =
+  entry_comes : KeepsRules (map declaration_of trees) → HoldsState store → Fitting f call.args → Comes (file_module trees) (view_of trees (file_module trees)) f.params one_number (body_value (value_of f.params call.args) f.body replies).events (body_value (value_of f.params call.args) f.body replies).end entry Ends []
+  entry_comes rules state fit =
       let file = map declaration_of trees in
       let imports = called_in file in
       let steps = body_steps f.body in
@@ -147,20 +138,20 @@ module _ (trees : List Tree) (call : Call) (f : Exported) (built : IsBuilt trees
       let placed_there = entry_placed imports call.name f built.number call.args (arg_nums (param_types (func_type (file_module trees) built.number)) call.args) store replies fit become (has_state store state) in
       let same : steps_code imports f.params steps ≡ flat_map (action_code (length f.params)) (map (action_of imports f.params) steps) = sym (flat_map-map (action_code (length f.params)) (action_of imports f.params) steps) in
       subst (λ is. Comes (file_module trees) (view_of trees (file_module trees)) f.params one_number r.events r.end (placed (code_of (is ++ End ∷ [])) [] entry) Ends []) same
-      (bodies.comes (file_module trees) (view_of trees (file_module trees)) (externs_of file) imports f.params values f.body entry [] (End ∷ []) (imports_hold trees rules.names_differ) built.known built.fit built.imported placed_there)
+      (body_comes (file_module trees) (view_of trees (file_module trees)) (externs_of file) imports f.params values f.body entry [] (End ∷ []) (imports_hold trees rules) built.known built.fit built.imported placed_there)
 
 -- ---- each call
 
-call_agrees : BodiesCome → (trees : List Tree) → KeepsRules (map declaration_of trees) → IsSmall trees → (store : Store) → HoldsState store → (call : Call) (replies : List ℕ) (n : ℕ) (o : Option Exported) → export_named trees call.name ≡ o → args_fit o call.args ≡ true → CallAgrees Related (call_of (file_module trees) (view_of trees (file_module trees)) store call replies) n (outcome_of (called o call.args replies) n).events (outcome_of (called o call.args replies) n).end
-call_agrees bodies trees rules small store state call replies n None named fits = absurd (cc)
-call_agrees bodies trees rules small store state call replies n (Some f) named fits =
+call_agrees : (trees : List Tree) → KeepsRules (map declaration_of trees) → IsSmall trees → (store : Store) → HoldsState store → (call : Call) (replies : List ℕ) (n : ℕ) (o : Option Exported) → export_named trees call.name ≡ o → args_fit o call.args ≡ true → CallAgrees Related (call_of (file_module trees) (view_of trees (file_module trees)) store call replies) n (outcome_of (called o call.args replies) n).events (outcome_of (called o call.args replies) n).end
+call_agrees trees rules small store state call replies n None named fits = absurd (cc)
+call_agrees trees rules small store state call replies n (Some f) named fits =
     let fit = fitting f call.args fits in
     let built = is_built trees call.name f rules small named in
     let values = value_of f.params call.args in
     let r = body_value values f.body replies in
     call_comes trees call f built store replies n r.events r.end state named
-    (λ value left e. bodies.small (externs_of (map declaration_of trees)) f.params values f.body replies value left (λ name h. value_below f.params call.args name fit.values) built.known built.fit e)
-    (entry_comes trees call f built store replies bodies rules state fit)
+    (λ value left e. body_small (externs_of (map declaration_of trees)) f.params values f.body replies value left (λ name h. value_below f.params call.args name fit.values) built.known built.fit e)
+    (entry_comes trees call f built store replies rules state fit)
 
 -- what may be called of the file may be called of its module
 call_fits_too : (trees : List Tree) → KeepsRules (map declaration_of trees) → IsSmall trees → (call : Call) (o : Option Exported) → export_named trees call.name ≡ o → args_fit o call.args ≡ true → call_fits (file_module trees) (view_of trees (file_module trees)) call ≡ true
@@ -170,16 +161,16 @@ call_fits_too trees rules small call (Some f) named fits =
     let built = is_built trees call.name f rules small named in
     and_from _ _ (ap (λ o. is_some o) built.exported) (ap (λ o. signature_fits (signature_of o) call.args) named ∙ args_too f call.args fit)
 
-calls_agree : BodiesCome → (trees : List Tree) → KeepsRules (map declaration_of trees) → IsSmall trees → AgreesOnCalls Related (source_machine trees) (module_machine (file_module trees) (view_of trees (file_module trees)))
-calls_agree bodies trees rules small = record {
+calls_agree : (trees : List Tree) → KeepsRules (map declaration_of trees) → IsSmall trees → AgreesOnCalls Related (source_machine trees) (module_machine (file_module trees) (view_of trees (file_module trees)))
+calls_agree trees rules small = record {
   fits = λ call h. call_fits_too trees rules small call (export_named trees call.name) refl h;
-  calls = λ state store related call h replies n. call_agrees bodies trees rules small store related call replies n (export_named trees call.name) refl h;
+  calls = λ state store related call h replies n. call_agrees trees rules small store related call replies n (export_named trees call.name) refl h;
 }
 
--- The sessions of the module of a file are those of the file, where the code of bodies comes out.
-pub file_agrees : BodiesCome → (trees : List Tree) → KeepsRules (map declaration_of trees) → IsSmall trees → Agrees (source_machine trees) tt (module_machine (file_module trees) (view_of trees (file_module trees))) (first_store (file_module trees))
-file_agrees bodies trees rules small =
+-- The sessions of the module of a file are those of the file.
+pub file_agrees : (trees : List Tree) → KeepsRules (map declaration_of trees) → IsSmall trees → Agrees (source_machine trees) tt (module_machine (file_module trees) (view_of trees (file_module trees))) (first_store (file_module trees))
+file_agrees trees rules small =
     let m = file_module trees in
     let v = view_of trees m in
-    agrees_by_calls Related (source_machine trees) (module_machine m v) (calls_agree bodies trees rules small) (machine-stays_ended m v) tt (first_store m)
+    agrees_by_calls Related (source_machine trees) (module_machine m v) (calls_agree trees rules small) (machine-stays_ended m v) tt (first_store m)
     (record { cause = 0; pointer = 0; count = 0; globals = refl })

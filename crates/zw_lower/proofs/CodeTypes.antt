@@ -12,7 +12,7 @@ use Rattle.zw_form.specs.declared.source.Operator.{Operator}
 use Rattle.zw_form.specs.declared.source.Operator.TheVariants.{Add, Subtract, AddWrapping}
 use Rattle.zw_form.specs.declared.source.Step.{Step}
 use Rattle.zw_form.specs.declared.source.Step.TheVariants as step
-use Rattle.zw_lower.proofs.ListParts.{All-left, All-right}
+use Rattle.zw_lower.proofs.ListLemmas.{All-left, All-right}
 use Rattle.zw_lower.proofs.Running.{steps_code}
 use Rattle.zw_lower.specs.Modules.{op_of, action_code, number_type}
 use Rattle.zw_safety.proofs.CheckedTypes.{add-checked, sub-checked, add_wrap-checked}

@@ -1,10 +1,10 @@
 -- At the entry of an exported function: its arguments become its first locals, and those that its code writes are there.
-use Rattle.std.proofs.Common.{◌≡◌, ℕ, zero, suc, ◌<◌, ◌^◌, pos, negsuc, Bool, true, false, cond, List, [], ◌∷◌, ◌++◌, length, map, replicate, get_or, Some, All, Contains, refl, ap, ◌∙◌, subst, arith, lit<}
+use Rattle.std.proofs.Common.{◌≡◌, ℕ, suc, ◌<◌, ◌^◌, pos, negsuc, Bool, true, false, cond, List, [], ◌∷◌, ◌++◌, length, map, replicate, Some, All, Contains, refl, ap, ◌∙◌, subst, arith, lit<}
 use Rattle.std.specs.Prelude.{nat_eq, slice_get}
 use Rattle.std.specs.List.{list_all, list_any}
 use Rattle.std.specs.Str.{bytes_eq}
 use Rattle.std.proofs.Math.Nat.{mod-eq_of_lt}
-use Rattle.std.proofs.lemmas.Bool.{and_parts, and_from, ltb-true, eqb-true, or_left, or_right}
+use Rattle.std.proofs.lemmas.Bool.{and_parts, and_from, ltb-true, eqb-true}
 use Rattle.std.proofs.lemmas.List.{length-append, length-map}
 use Rattle.std.proofs.lemmas.Option.{slice_get_within}
 use Rattle.zw_form.specs.Programs.{number_in, action_of, function_of}
@@ -13,7 +13,8 @@ use Rattle.zw_form.specs.Trees.{body_steps}
 use Rattle.zw_form.specs.declared.source.Step.{Step}
 use Rattle.zw_lower.specs.Modules.{writes_locals, locals_of, body_of}
 use Rattle.zw_lower.proofs.ExportFacts.{in_steps}
-use Rattle.zw_lower.proofs.ListFacts.{contains_other, slice_get-append_left}
+use Rattle.zw_lower.proofs.ListLemmas.{slice_get-append_left, list_any-map_at}
+use Rattle.zw_lower.proofs.NameLemmas.{contains_other}
 use Rattle.zw_lower.proofs.Running.{Placed}
 use Rattle.zw_safety.specs.Checked.{HasScratch, HasPanicState}
 use Rattle.zw_session.specs.Sessions.{Scalar, Number, Truth}
@@ -105,15 +106,10 @@ local_is (param ∷ params) (arg ∷ args) name same h =
 
 -- ---- the locals that code writes
 
-any_at : {X Y : Type 0} (test : Y → Bool) (g : X → Y) (xs : List X) (k : ℕ) (d : X) → k < length xs → test (g (get_or xs k d)) ≡ true → list_any test (map g xs) ≡ true
-any_at test g [] k d h e = absurd (omega arith)
-any_at test g (x ∷ xs) zero d h e = or_left (test (g x)) (list_any test (map g xs)) e
-any_at test g (x ∷ xs) (suc k) d h e = or_right (test (g x)) (list_any test (map g xs)) (any_at test g xs k d (omega arith) e)
-
 -- they are behind those of the arguments
 scratch_there : (imports params : List (List ℕ)) (steps : List Step) (locals : List Num) → length locals ≡ length params → All (λ s. writes_locals (action_of imports params s) ≡ true → HasScratch (length params) (locals ++ zeros (locals_of (map (action_of imports params) steps)))) steps
 scratch_there imports params steps locals same = λ k d h writes.
-    let some : list_any writes_locals (map (action_of imports params) steps) ≡ true = any_at writes_locals (action_of imports params) steps k d h writes in
+    let some : list_any writes_locals (map (action_of imports params) steps) ≡ true = list_any-map_at writes_locals (action_of imports params) steps k d h writes in
     let eight : length (zeros (locals_of (map (action_of imports params) steps))) ≡ 8 = ap (λ b. length (zeros (cond b ((4, ty.I32) ∷ (4, ty.I64) ∷ []) []))) some in
     omega (arith, same, eight, length-append locals (zeros (locals_of (map (action_of imports params) steps))))
 

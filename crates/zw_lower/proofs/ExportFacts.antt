@@ -1,10 +1,9 @@
 -- What the module of a file exports: the file's functions under their names, and then the state of a panic.
 use Rattle.std.proofs.Common.{◌≡◌, ℕ, suc, ◌+◌, ◌-◌, Bool, true, false, cond, List, [], ◌∷◌, ◌++◌, length, map, Some, All, Contains, codes, refl, ap, ◌∙◌, arith}
 use Rattle.std.specs.Prelude.{nat_lt, slice_get}
-use Rattle.std.specs.List.{flat_map}
 use Rattle.std.specs.Str.{bytes_eq}
 use Rattle.std.proofs.lemmas.Bool.{le-ltb}
-use Rattle.std.proofs.lemmas.List.Elements.{All-nil, All-cons, All-head, All-tail, Contains-get_or}
+use Rattle.std.proofs.lemmas.List.Elements.{All-nil, All-cons, All-head, All-tail}
 use Rattle.std.proofs.lemmas.Option.{same_Some}
 use Rattle.zw_form.specs.Form.{FitsStep, IsSmall}
 use Rattle.zw_form.specs.Programs.{called_in, function_of}
@@ -14,8 +13,11 @@ use Rattle.zw_form.specs.Trees.{Body, Tree, Extern, Export, body_steps, body_cal
 use Rattle.zw_form.specs.declared.program.Function.{Function}
 use Rattle.zw_form.specs.declared.source.ExportedFunction.{ExportedFunction}
 use Rattle.zw_lower.specs.Modules.{body_of, number_type, exports_from, state_exports}
-use Rattle.zw_lower.proofs.ListFacts.{all_at, contains_joined, same_name, slice_get-map_some, kept_once}
-use Rattle.zw_lower.proofs.ModuleFacts.{file_program, file_module, length-imports_from, func_type-function}
+use Rattle.zw_lower.proofs.FileCalls.{callees_are_imported}
+use Rattle.zw_lower.proofs.FileImports.{file_program, file_module}
+use Rattle.zw_lower.proofs.ListLemmas.{All-at, slice_get-map_some}
+use Rattle.zw_lower.proofs.ModuleTypes.{length-imports_from, type_of_function}
+use Rattle.zw_lower.proofs.NameLemmas.{same_name}
 use Rattle.zw_wasm.specs.declared.module.ExportDef.{ExportDef}
 use Rattle.zw_wasm.specs.declared.module.TheConstants.ExportDef.{FUNC, GLOBAL}
 use Rattle.zw_wasm.specs.Functions.{func_type}
@@ -94,16 +96,12 @@ exports_fit (Export name params body ∷ trees) h =
     let P = λ (t : Tree). All FitsStep (steps_of (declaration_of t)) in
     All-cons (λ (f : ExportedFunction). All FitsStep f.steps) (in_steps name (record { params = params; body = body })) (exports_of (map declaration_of trees)) (All-head P (Export name params body) trees h) (exports_fit trees (All-tail P (Export name params body) trees h))
 
--- each function that an exported one calls is called in the file
-callees_called : (trees : List Tree) (place : ℕ) (f : ExportedFunction) → slice_get (exports_of (map declaration_of trees)) place ≡ Some f → All (Contains (called_in (map declaration_of trees))) f.callees
-callees_called trees place f there = λ k d h.
-    kept_once (flat_map (λ (g : ExportedFunction). g.callees) (exports_of (map declaration_of trees))) _ (contains_joined (λ (g : ExportedFunction). g.callees) (exports_of (map declaration_of trees)) place f _ there (Contains-get_or f.callees k d h))
-
 built_at : (trees : List Tree) (name : List ℕ) (f : Exported) → KeepsRules (map declaration_of trees) → IsSmall trees → StandsAt trees (called_in (map declaration_of trees)) state_exports name f (length (file_program trees).imports) → IsBuilt trees name f
 built_at trees name f rules small r =
     let p = file_program trees in
     let n = length p.imports in
     let imports = called_in (map declaration_of trees) in
+    let behind : n + r.place ≡ length (file_module trees).imports + r.place = omega (arith, length-imports_from 0 p.imports) in
     let count : n + r.place - length (file_module trees).imports ≡ r.place = omega (arith, length-imports_from 0 p.imports) in
     let there : slice_get p.functions r.place ≡ Some (function_of imports (in_steps name f)) = slice_get-map_some (function_of imports) (exports_of (map declaration_of trees)) r.place (in_steps name f) r.there in
     record {
@@ -111,10 +109,10 @@ built_at trees name f rules small r =
       exported = r.exported;
       own = le-ltb (n + r.place) (length (file_module trees).imports) (omega (arith, length-imports_from 0 p.imports));
       body = ap (slice_get (file_module trees).codes) count ∙ slice_get-map_some body_of p.functions r.place (function_of imports (in_steps name f)) there;
-      typed = func_type-function p r.place (function_of imports (in_steps name f)) there;
-      known = (all_at (KeepsSteps (externs_of (map declaration_of trees))) (exports_of (map declaration_of trees)) r.place (in_steps name f) rules.steps r.there).steps_are_known;
-      fit = all_at (λ (g : ExportedFunction). All FitsStep g.steps) (exports_of (map declaration_of trees)) r.place (in_steps name f) (exports_fit trees small.numbers_fit) r.there;
-      imported = callees_called trees r.place (in_steps name f) r.there;
+      typed = ap (func_type (file_module trees)) behind ∙ type_of_function p r.place (function_of imports (in_steps name f)) there;
+      known = (All-at (KeepsSteps (externs_of (map declaration_of trees))) (exports_of (map declaration_of trees)) r.place (in_steps name f) rules.steps r.there).steps_are_known;
+      fit = All-at (λ (g : ExportedFunction). All FitsStep g.steps) (exports_of (map declaration_of trees)) r.place (in_steps name f) (exports_fit trees small.numbers_fit) r.there;
+      imported = All-at (λ (g : ExportedFunction). All (Contains imports) g.callees) (exports_of (map declaration_of trees)) r.place (in_steps name f) (callees_are_imported (map declaration_of trees)) r.there;
     }
 
 -- Each exported function of a file that keeps the rules is built.

@@ -1,11 +1,8 @@
 -- What the exported functions of a file call: imports of its program, which are extern functions by the rules.
-use Rattle.std.proofs.Common.{◌≡◌, ℕ, List, [], ◌∷◌, map, Some, All, Contains, refl, sym, ap, ◌∙◌, subst}
-use Rattle.std.specs.Prelude.{slice_get}
+use Rattle.std.proofs.Common.{◌≡◌, ℕ, List, [], ◌∷◌, map, All, Contains, refl, sym, subst}
 use Rattle.std.specs.List.{flat_map}
-use Rattle.std.specs.Option.{option_map}
 use Rattle.std.proofs.lemmas.List.Elements.{All-nil, All-cons, All-weaker, All-contains_itself}
-use Rattle.std.proofs.lemmas.Option.{slice_get-map}
-use Rattle.zw_form.specs.Programs.{number_in, import_of, import_named, called_in, program_of}
+use Rattle.zw_form.specs.Programs.{called_in}
 use Rattle.zw_form.specs.Rules.{KeepsRules, KeepsSteps, IsKnown, externs_of, exports_of}
 use Rattle.zw_form.specs.Trees.{Body, Tree, Extern, Export, body_steps, body_callees, declaration_of}
 use Rattle.zw_form.specs.declared.source.Declaration.{Declaration}
@@ -13,12 +10,9 @@ use Rattle.zw_form.specs.declared.source.ExportedFunction.{ExportedFunction}
 use Rattle.zw_form.specs.declared.source.ExternFunction.{ExternFunction}
 use Rattle.zw_form.specs.declared.source.Step.{Step}
 use Rattle.zw_form.specs.declared.source.Step.TheVariants as step
-use Rattle.zw_lower.proofs.BodyTypes.{AreImported}
-use Rattle.zw_lower.proofs.CalledNames.{OfCall, body_calls, body_called, name_is_kept, kept_are, number_is}
-use Rattle.zw_lower.proofs.FileNames.{extern_is_found}
-use Rattle.zw_lower.proofs.ListParts.{All-parts, All-joined}
-use Rattle.zw_lower.proofs.ModuleTypes.{type_of_import}
-use Rattle.zw_lower.specs.Modules.{module_of}
+use Rattle.zw_lower.proofs.CalledNames.{OfCall, body_calls, body_called}
+use Rattle.zw_lower.proofs.ListLemmas.{All-parts, All-joined}
+use Rattle.zw_lower.proofs.NameLemmas.{name_is_kept, kept_are}
 
 -- an exported function in steps, of a body
 pub record IsOfBody (f : ExportedFunction) : Type 0 where
@@ -37,17 +31,20 @@ callees_of f = f.callees
 
 -- ---- what is called is imported
 
+pub callees_are_imported : (file : List Declaration) → All (λ f. All (Contains (called_in file)) f.callees) (exports_of file)
+callees_are_imported file =
+    let names = flat_map callees_of (exports_of file) in
+    let P = Contains (called_in file) in
+    All-parts P callees_of (exports_of file) (All-weaker (Contains names) P (name_is_kept names) names (All-contains_itself names))
+
 calls_of_callees : (P : List ℕ → Type 0) (f : ExportedFunction) → IsOfBody f → All P f.callees → All (OfCall P) f.steps
 calls_of_callees P f is h =
     subst (λ (steps : List Step). All (OfCall P) steps) (sym is.steps) (body_calls P is.body (subst (λ (names : List (List ℕ)). All P names) is.callees h))
 
 pub calls_are_imported : (trees : List Tree) → All (λ f. All (OfCall (Contains (called_in (map declaration_of trees)))) f.steps) (exports_of (map declaration_of trees))
 calls_are_imported trees =
-    let exports = exports_of (map declaration_of trees) in
-    let names = flat_map callees_of exports in
-    let P = Contains (called_in (map declaration_of trees)) in
-    let called = All-parts P callees_of exports (All-weaker (Contains names) P (name_is_kept names) names (All-contains_itself names)) in
-    λ k d within. calls_of_callees P _ (exports_have_bodies trees k d within) (called k d within)
+    let file = map declaration_of trees in
+    λ k d within. calls_of_callees (Contains (called_in file)) _ (exports_have_bodies trees k d within) (callees_are_imported file k d within)
 
 -- ---- what is imported is an extern function
 
@@ -76,17 +73,3 @@ called_are_externs trees rules =
     let calls = All-weaker (KeepsSteps externs) (λ f. All (OfCall P) f.steps) known exports rules.steps in
     let each : All (λ f. All P (callees_of f)) exports = λ k d within. callees_of_calls P _ (exports_have_bodies trees k d within) (calls k d within) in
     kept_are P [] (flat_map callees_of exports) (All-joined P callees_of exports each)
-
--- and has its type in the module
-pub externs_are_imported : (file : List Declaration) → KeepsRules file → AreImported (module_of (program_of file)) (externs_of file) (called_in file)
-externs_are_imported file rules = record {
-  each = λ f there named.
-      let imports = called_in file in
-      let externs = externs_of file in
-      let k = number_in imports f.name in
-      let is : slice_get (map (import_named externs) imports) k ≡ Some (import_of f) =
-      slice_get-map (import_named externs) imports k
-      ∙ ap (option_map (import_named externs)) (number_is imports f.name named)
-      ∙ ap Some (extern_is_found file f rules there) in
-      type_of_import (program_of file) k (import_of f) is;
-}

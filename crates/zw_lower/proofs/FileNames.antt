@@ -1,18 +1,18 @@
 -- What the rules on names give: an extern function is found by its name, and the names that a module exports differ.
-use Rattle.std.proofs.Common.{◌≡◌, ◌≢◌, inl, inr, ℕ, suc, Bool, true, false, ◌||◌, List, [], ◌∷◌, ◌++◌, map, codes, All, Contains, refl, sym, ap, ◌∙◌, subst, arith}
+use Rattle.std.proofs.Common.{◌≡◌, ◌≢◌, inl, inr, ℕ, suc, Bool, true, false, ◌||◌, List, [], ◌∷◌, ◌++◌, map, codes, All, Contains, refl, ap, ◌∙◌, subst, arith}
 use Rattle.std.specs.Prelude.{AllPairs}
 use Rattle.std.specs.List.{AllByRecursion}
 use Rattle.std.specs.Str.{bytes_eq}
-use Rattle.std.proofs.lemmas.Bool.{false_from_ne_true, cond-true, cond-false}
+use Rattle.std.proofs.lemmas.Bool.{cond-true, cond-false}
 use Rattle.std.proofs.lemmas.List.Elements.{All-from_recursion, recursion_from_All, All-contains, All-weaker, All-map}
-use Rattle.std.proofs.lemmas.Slice.Eq.{bytes_eq-Decides}
 use Rattle.zw_form.specs.Programs.{import_of, import_named}
 use Rattle.zw_form.specs.Rules.{KeepsRules, KeepsNames, name_of, externs_of, exports_of, is_reserved}
 use Rattle.zw_form.specs.declared.source.Declaration.{Declaration}
 use Rattle.zw_form.specs.declared.source.Declaration.TheVariants.{Extern, Export}
 use Rattle.zw_form.specs.declared.source.ExportedFunction.{ExportedFunction}
 use Rattle.zw_form.specs.declared.source.ExternFunction.{ExternFunction}
-use Rattle.zw_lower.proofs.ListParts.{all-append, Contains-cases, Contains-head, Contains-tail}
+use Rattle.zw_lower.proofs.ListLemmas.{all-append, Contains-cases, Contains-head, Contains-tail}
+use Rattle.zw_lower.proofs.NameLemmas.{other_name, is_name, differ_too}
 use Rattle.zw_lower.specs.Right.{state_names}
 
 -- each name differs from all later ones
@@ -20,18 +20,16 @@ abbrev pub Differ : List (List ℕ) → Type 0
 Differ [] = Unit {0}
 Differ (x ∷ xs) = AllByRecursion (λ y. bytes_eq x y ≡ false) xs × Differ xs
 
-bytes-differ : (x y : List ℕ) → x ≢ y → bytes_eq x y ≡ false
-bytes-differ x y h = false_from_ne_true (bytes_eq x y) (λ e. h ((bytes_eq-Decides x y).0 e))
-
-differ_too : (x y : List ℕ) → bytes_eq x y ≡ false → bytes_eq y x ≡ false
-differ_too x y h = bytes-differ y x (λ e. let same : bytes_eq x y ≡ true = (bytes_eq-Decides x y).1 (sym e) in absurd (cc))
-
 differ_from_pairs : (xs : List (List ℕ)) → AllPairs (λ x y. x ≢ y) xs → Differ xs
 differ_from_pairs [] h = tt
 differ_from_pairs (x ∷ xs) h =
-    let first : All (λ y. bytes_eq x y ≡ false) xs = λ k d within. bytes-differ x _ (h 0 (suc k) d (omega arith) (omega (arith, within))) in
+    let first : All (λ y. bytes_eq x y ≡ false) xs = λ k d within. other_name x _ (h 0 (suc k) d (omega arith) (omega (arith, within))) in
     let others : AllPairs (λ x y. x ≢ y) xs = λ i j d before within. h (suc i) (suc j) d (omega (arith, before)) (omega (arith, within)) in
     (recursion_from_All (λ y. bytes_eq x y ≡ false) xs first, differ_from_pairs xs others)
+
+-- no two declarations have the same name
+pub declared_names_differ : (file : List Declaration) → KeepsRules file → Differ (map name_of file)
+declared_names_differ file rules = differ_from_pairs (map name_of file) rules.names_differ
 
 differ-append : (xs ys : List (List ℕ)) → Differ xs → Differ ys → AllByRecursion (λ x. AllByRecursion (λ y. bytes_eq x y ≡ false) ys) xs → Differ (xs ++ ys)
 differ-append [] ys h k across = k
@@ -48,24 +46,22 @@ extern_is_named (Extern g ∷ file) f h =
     ]
 extern_is_named (Export g ∷ file) f h = Contains-tail g.name (map name_of file) f.name (extern_is_named file f h)
 
-found : (file : List Declaration) (f : ExternFunction) → Differ (map name_of file) → Contains (externs_of file) f → import_named (externs_of file) f.name ≡ import_of f
-found [] f differ h = absurd (omega (arith, h.1))
-found (Extern g ∷ file) f differ h =
+-- a name that differs from all that are declared is no extern function's
+pub named_apart : (g f : ExternFunction) (file : List Declaration) → AllByRecursion (λ y. bytes_eq g.name y ≡ false) (map name_of file) → Contains (externs_of file) f → bytes_eq g.name f.name ≡ false
+named_apart g f file differ h =
+    let P : List ℕ → Type 0 = λ y. bytes_eq g.name y ≡ false in
+    All-contains P (map name_of file) f.name (All-from_recursion P (map name_of file) differ) (extern_is_named file f h)
+
+-- an extern function is the one that its name is looked up as
+pub extern_is_found : (file : List Declaration) (f : ExternFunction) → Differ (map name_of file) → Contains (externs_of file) f → import_named (externs_of file) f.name ≡ import_of f
+extern_is_found [] f differ h = absurd (omega (arith, h.1))
+extern_is_found (Extern g ∷ file) f differ h =
     let others = import_named (externs_of file) f.name in
     elim (Contains-cases g (externs_of file) f h) [
-      | inl same ↦
-          let equal : bytes_eq g.name f.name ≡ true = (bytes_eq-Decides g.name f.name).1 (ap (λ (e : ExternFunction). e.name) same) in
-          cond-true (bytes_eq g.name f.name) (import_of g) others equal ∙ ap import_of same
-      | inr behind ↦
-          let P : List ℕ → Type 0 = λ y. bytes_eq g.name y ≡ false in
-          let unequal : bytes_eq g.name f.name ≡ false = All-contains P (map name_of file) f.name (All-from_recursion P (map name_of file) differ.0) (extern_is_named file f behind) in
-          cond-false (bytes_eq g.name f.name) (import_of g) others unequal ∙ found file f differ.1 behind
+      | inl same ↦ cond-true (bytes_eq g.name f.name) (import_of g) others (is_name g.name f.name (ap (λ (e : ExternFunction). e.name) same)) ∙ ap import_of same
+      | inr behind ↦ cond-false (bytes_eq g.name f.name) (import_of g) others (named_apart g f file differ.0 behind) ∙ extern_is_found file f differ.1 behind
     ]
-found (Export g ∷ file) f differ h = found file f differ.1 h
-
--- an extern function is the one with its name
-pub extern_is_found : (file : List Declaration) (f : ExternFunction) → KeepsRules file → Contains (externs_of file) f → import_named (externs_of file) f.name ≡ import_of f
-extern_is_found file f rules h = found file f (differ_from_pairs (map name_of file) rules.names_differ) h
+extern_is_found (Export g ∷ file) f differ h = extern_is_found file f differ.1 h
 
 -- ---- exported functions
 
@@ -106,4 +102,4 @@ pub exported_names_differ : (file : List Declaration) → KeepsRules file → Di
 exported_names_differ file rules =
     let free = All-weaker (KeepsNames (map name_of file)) (λ d. IsNoState (name_of d)) (λ d keeps. unreserved (name_of d) keeps.name_is_unreserved) file rules.names in
     let frees = recursion_from_All IsNoState (map name_of file) (All-map IsNoState name_of file free) in
-    differ-append (names_of_exports file) state_names (exports_differ file (differ_from_pairs (map name_of file) rules.names_differ)) states_differ (exports_are IsNoState file frees)
+    differ-append (names_of_exports file) state_names (exports_differ file (declared_names_differ file rules)) states_differ (exports_are IsNoState file frees)

@@ -11,7 +11,7 @@ use Rattle.zw_form.specs.declared.source.ExternFunction.{ExternFunction}
 use Rattle.zw_form.specs.declared.source.Callee.{Callee}
 use Rattle.zw_form.specs.declared.source.Step.TheVariants.{Call}
 use Rattle.zw_lower.proofs.BodySmall.{AreArgs, IsSmall}
-use Rattle.zw_lower.proofs.Running.{Imports, IsImported}
+use Rattle.zw_lower.proofs.Running.{Imports, IsImported, words}
 use Rattle.zw_lower.specs.Modules.{number_type}
 use Rattle.zw_session.specs.Sessions.{Scalar, Number, HostEvent}
 use Rattle.zw_wasm.proofs.RunsCompose.{host_event}
@@ -24,10 +24,6 @@ use Rattle.zw_wasm.specs.declared.num.Num.TheVariants.{I32}
 use Rattle.zw_wasm.specs.Functions.{func_type}
 use Rattle.zw_wasm.specs.Reduction.{field_of}
 use Rattle.zw_wasm.specs.Signature.{View, Value, Unsigned, shown_scalars, shown_ranges}
-
--- the arguments as operands
-abbrev pub words : List ℕ → List Num
-words ns = map (λ n. I32 n) ns
 
 shown-numbers : (ns : List ℕ) → All IsSmall ns → shown_scalars (replicate (length ns) (Value (Unsigned 32))) (words ns) ≡ map (λ n. Number (pos n)) ns
 shown-numbers [] small = refl

@@ -2,7 +2,6 @@
 use Rattle.std.proofs.Common.{◌≡◌, ℕ, suc, Bool, true, false, cond, List, [], ◌∷◌, ◌++◌, length, map, codes, refl, ap, ◌∙◌}
 use Rattle.std.specs.Str.{bytes_eq}
 use Rattle.std.proofs.lemmas.List.{map-append}
-use Rattle.std.proofs.lemmas.Slice.Eq.{bytes_eq-Decides}
 use Rattle.zw_form.specs.Programs.{called_in, import_of, import_named, function_of, program_of}
 use Rattle.zw_form.specs.Rules.{externs_of, exports_of}
 use Rattle.zw_form.specs.declared.program.Import.{Import}
@@ -10,6 +9,7 @@ use Rattle.zw_form.specs.declared.source.Declaration.{Declaration}
 use Rattle.zw_form.specs.declared.source.ExportedFunction.{ExportedFunction}
 use Rattle.zw_form.specs.declared.source.ExternFunction.{ExternFunction}
 use Rattle.zw_lower.proofs.FileNames.{names_of_exports}
+use Rattle.zw_lower.proofs.NameLemmas.{same_name}
 use Rattle.zw_lower.specs.Modules.{imports_from, exports_from, state_exports, module_of}
 use Rattle.zw_lower.specs.Right.{state_names}
 use Rattle.zw_wasm.specs.declared.module.ExportDef.{ExportDef}
@@ -17,7 +17,7 @@ use Rattle.zw_wasm.specs.declared.module.FuncImport.{FuncImport}
 
 -- an import has the name that it is looked up by
 named_at : (b : Bool) (f : ExternFunction) (other : Import) (name : List ℕ) → bytes_eq f.name name ≡ b → other.name ≡ name → (cond b (import_of f) other).name ≡ name
-named_at true f other name e h = (bytes_eq-Decides f.name name).0 e
+named_at true f other name e h = same_name f.name name e
 named_at false f other name e h = h
 
 pub import_is_named : (externs : List ExternFunction) (name : List ℕ) → (import_named externs name).name ≡ name

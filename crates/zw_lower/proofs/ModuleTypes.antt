@@ -1,13 +1,12 @@
 -- The types of a module's functions, by number: the imported ones come first.
 use Rattle.std.proofs.Common.{◌≡◌, ℕ, zero, suc, ◌+◌, ◌<◌, List, [], ◌∷◌, length, map, Some, refl, sym, ap, ◌∙◌, arith}
 use Rattle.std.specs.Prelude.{slice_get}
-use Rattle.std.specs.Option.{option_map}
 use Rattle.std.proofs.lemmas.List.{length-map}
-use Rattle.std.proofs.lemmas.Option.{slice_get-map, slice_get_within}
+use Rattle.std.proofs.lemmas.Option.{slice_get_within}
 use Rattle.zw_form.specs.declared.program.Function.{Function}
 use Rattle.zw_form.specs.declared.program.Import.{Import}
 use Rattle.zw_form.specs.declared.program.Program.{Program}
-use Rattle.zw_lower.proofs.ListParts.{slice_get-append_left, slice_get-append_right}
+use Rattle.zw_lower.proofs.ListLemmas.{slice_get-append_left, slice_get-append_right, slice_get-map_some}
 use Rattle.zw_lower.specs.Modules.{import_type, function_type, imports_from, numbers_from, module_of}
 use Rattle.zw_wasm.specs.declared.module.FuncImport.{FuncImport}
 use Rattle.zw_wasm.specs.Functions.{func_type, type_at}
@@ -44,8 +43,7 @@ type_of_import p k i is =
     ap (λ ns. slice_get ns k) (imports_are_numbered 0 p.imports) ∙ number_at 0 p.imports k within ∙ ap (λ (n : ℕ). Some n) (omega arith) in
     ap (type_at m) (slice_get-append_left tys m.funcs k inside ∙ number)
     ∙ slice_get-append_left (map import_type p.imports) (map function_type p.functions) k among
-    ∙ slice_get-map import_type p.imports k
-    ∙ ap (option_map import_type) is
+    ∙ slice_get-map_some import_type p.imports k i is
 
 pub type_of_function : (p : Program) (j : ℕ) (g : Function) → slice_get p.functions j ≡ Some g → func_type (module_of p) (length (module_of p).imports + j) ≡ Some (function_type g)
 type_of_function p j g is =
@@ -54,5 +52,4 @@ type_of_function p j g is =
     let within : j < length p.functions = slice_get_within p.functions j g is in
     ap (type_at m) (slice_get-append_right tys m.funcs (length m.imports) j (sym (length-map m.imports (λ (i : FuncImport). i.ty))) ∙ number_at (length p.imports) p.functions j within)
     ∙ slice_get-append_right (map import_type p.imports) (map function_type p.functions) (length p.imports) j (sym (length-map p.imports import_type))
-    ∙ slice_get-map function_type p.functions j
-    ∙ ap (option_map function_type) is
+    ∙ slice_get-map_some function_type p.functions j g is

@@ -5,23 +5,23 @@ use Rattle.std.specs.List.{AllByRecursion, list_any}
 use Rattle.std.specs.Str.{bytes_eq}
 use Rattle.std.proofs.lemmas.Bool.{cond-true, lt-ltb, le-leb, eq-eqb, and_from, or_from, not_from_false}
 use Rattle.std.proofs.lemmas.List.{length-map}
-use Rattle.std.proofs.lemmas.List.Elements.{All-map, All-head, All-tail}
-use Rattle.std.proofs.lemmas.Option.{slice_get-map}
-use Rattle.std.specs.Option.{option_map}
+use Rattle.std.proofs.lemmas.List.Elements.{All-from_recursion, All-map, All-head, All-tail}
 use Rattle.zw_form.specs.Form.{IsSmall}
-use Rattle.zw_form.specs.Programs.{called_in, function_of, program_of}
+use Rattle.zw_form.specs.Programs.{called_in, function_of}
 use Rattle.zw_form.specs.Rules.{KeepsRules, externs_of, exports_of, params_of}
 use Rattle.zw_form.specs.Trees.{Tree, Extern, Export, declaration_of}
 use Rattle.zw_form.specs.declared.program.Function.{Function}
 use Rattle.zw_form.specs.declared.program.Import.{Import}
 use Rattle.zw_form.specs.declared.program.Program.{Program}
 use Rattle.zw_lower.proofs.BodyTypes.{body_is_accepted}
-use Rattle.zw_lower.proofs.FileCalls.{exports_have_bodies, calls_are_imported, externs_are_imported}
+use Rattle.zw_lower.proofs.FileCalls.{exports_have_bodies, calls_are_imported}
+use Rattle.zw_lower.proofs.FileImports.{file_program, file_module, imports_hold}
 use Rattle.zw_lower.proofs.FileNames.{Differ, exported_names_differ}
-use Rattle.zw_lower.proofs.ListParts.{all-append, by_place}
+use Rattle.zw_lower.proofs.ListLemmas.{all-append, All-at, slice_get-map_some}
 use Rattle.zw_lower.proofs.ModuleNames.{module_exports}
 use Rattle.zw_lower.proofs.ModuleTypes.{length-numbers_from, length-imports_from, type_of_function}
 use Rattle.zw_lower.specs.Modules.{import_type, function_type, imports_from, numbers_from, exports_from, state_exports, zero_global, most_params, pages_for, memory_for, body_of, module_of}
+use Rattle.zw_lower.specs.Views.{view_of}
 use Rattle.zw_safety.specs.Checked.{IsNumberGlobal, PanicStateIsTyped}
 use Rattle.zw_wasm.specs.declared.module.ExportDef.{ExportDef}
 use Rattle.zw_wasm.specs.declared.module.FuncImport.{FuncImport}
@@ -87,13 +87,16 @@ earlier_differ [] j e differ is = absurd (cc)
 earlier_differ (x ∷ exports) zero e differ is = refl
 earlier_differ (x ∷ exports) (suc j) e differ is =
     let names = map (λ (e : ExportDef). e.name) exports in
-    let named : slice_get names j ≡ Some e.name = slice_get-map (λ (e : ExportDef). e.name) exports j ∙ ap (option_map (λ (e : ExportDef). e.name)) is in
-    or_from _ _ (by_place (λ y. bytes_eq x.name y ≡ false) names j e.name differ.0 named) (earlier_differ exports j e differ.1 is)
+    let P : List ℕ → Type 0 = λ y. bytes_eq x.name y ≡ false in
+    let named : slice_get names j ≡ Some e.name = slice_get-map_some (λ (e : ExportDef). e.name) exports j e is in
+    or_from _ _ (All-at P names j e.name (All-from_recursion P names differ.0) named) (earlier_differ exports j e differ.1 is)
 
 exports_pass : (m : Module) → Differ (map (λ (e : ExportDef). e.name) m.exports) → AllByRecursion (λ e. export_is_there m e ≡ true) m.exports → first_refused (export_ok m) 0 m.exports ≡ None
-exports_pass m differ there = first_refused-none (export_ok m) 0 m.exports (λ j e is.
+exports_pass m differ there =
+    let P : ExportDef → Type 0 = λ e. export_is_there m e ≡ true in
+    first_refused-none (export_ok m) 0 m.exports (λ j e is.
     let at : 0 + j ≡ j = omega arith in
-    ap (λ n. export_ok m n e) at ∙ and_from _ _ (by_place (λ e. export_is_there m e ≡ true) m.exports j e there is) (not_from_false _ (earlier_differ m.exports j e differ is)))
+    ap (λ n. export_ok m n e) at ∙ and_from _ _ (All-at P m.exports j e (All-from_recursion P m.exports there) is) (not_from_false _ (earlier_differ m.exports j e differ is)))
 
 -- ---- bodies
 
@@ -115,22 +118,22 @@ number_global m n there = record { global = zero_global; there = there; type_is 
 panic_state : (p : Program) → PanicStateIsTyped (module_of p)
 panic_state p = record { cause = number_global (module_of p) 0 refl; pointer = number_global (module_of p) 1 refl; count = number_global (module_of p) 2 refl }
 
-file_bodies : (trees : List Tree) → KeepsRules (map declaration_of trees) → All (λ g. check_body (module_of (program_of (map declaration_of trees))) (Some (function_type g)) (body_of g) ≡ None) (program_of (map declaration_of trees)).functions
+file_bodies : (trees : List Tree) → KeepsRules (map declaration_of trees) → All (λ g. check_body (file_module trees) (Some (function_type g)) (body_of g) ≡ None) (file_program trees).functions
 file_bodies trees rules =
     let file = map declaration_of trees in
-    let m = module_of (program_of file) in
+    let m = file_module trees in
     let imports = called_in file in
     let exports = exports_of file in
     let accepted : All (λ f. check_body m (Some (function_type (function_of imports f))) (body_of (function_of imports f)) ≡ None) exports = λ k d within.
     let f = get_or exports k d in
     let is = exports_have_bodies trees k d within in
     let keeps = rules.steps k d within in
-    body_is_accepted m (externs_of file) imports f is.body is.steps (panic_state (program_of file)) (externs_are_imported file rules) keeps.steps_are_known (calls_are_imported trees k d within) in
+    body_is_accepted m (view_of trees m) (externs_of file) imports f is.body is.steps (panic_state (file_program trees)) (imports_hold trees rules) keeps.steps_are_known (calls_are_imported trees k d within) in
     All-map (λ g. check_body m (Some (function_type g)) (body_of g) ≡ None) (function_of imports) exports accepted
 
-bodies_valid : (trees : List Tree) → KeepsRules (map declaration_of trees) → bodies_violation (module_of (program_of (map declaration_of trees))) 0 (module_of (program_of (map declaration_of trees))).codes ≡ None
+bodies_valid : (trees : List Tree) → KeepsRules (map declaration_of trees) → bodies_violation (file_module trees) 0 (file_module trees).codes ≡ None
 bodies_valid trees rules =
-    let p = program_of (map declaration_of trees) in
+    let p = file_program trees in
     let m = module_of p in
     let typed : (j : ℕ) (g : Function) → slice_get p.functions j ≡ Some g → func_type m (length m.imports + (0 + j)) ≡ Some (function_type g) = λ j g is.
     let at : length m.imports + (0 + j) ≡ length m.imports + j = omega arith in ap (func_type m) at ∙ type_of_function p j g is in
@@ -162,11 +165,11 @@ outside_valid p few differ =
 
 -- ---- the module
 
-pub module_valid : (trees : List Tree) → KeepsRules (map declaration_of trees) → IsSmall trees → IsValid (module_of (program_of (map declaration_of trees)))
+pub module_valid : (trees : List Tree) → KeepsRules (map declaration_of trees) → IsSmall trees → IsValid (file_module trees)
 module_valid trees rules small =
     let file = map declaration_of trees in
-    let p = program_of file in
-    let m = module_of p in
+    let p = file_program trees in
+    let m = file_module trees in
     let differ : Differ (map (λ (e : ExportDef). e.name) m.exports) = subst Differ (sym (module_exports file)) (exported_names_differ file rules) in
     let outer = outside_valid p (few_params (called_in file) trees small.params_are_few) differ in
     record { none = ap (λ o. or_then o (bodies_violation m 0 m.codes)) outer ∙ bodies_valid trees rules }

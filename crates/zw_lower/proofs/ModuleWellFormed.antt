@@ -9,7 +9,7 @@ use Rattle.std.proofs.lemmas.List.Elements.{All-contains, All-map, All-weaker, r
 use Rattle.std.proofs.lemmas.Str.{IsUtf8-from_ascii}
 use Rattle.std.proofs.lemmas.Str.Ascii.{IsAscii-from_all}
 use Rattle.zw_form.specs.Form.{IsSmall}
-use Rattle.zw_form.specs.Programs.{called_in, import_named, function_of, program_of}
+use Rattle.zw_form.specs.Programs.{called_in, import_named, function_of}
 use Rattle.zw_form.specs.Rules.{KeepsRules, name_of, externs_of, exports_of}
 use Rattle.zw_form.specs.Trees.{Tree, declaration_of}
 use Rattle.zw_form.specs.declared.program.Action.{Action}
@@ -20,11 +20,12 @@ use Rattle.zw_form.specs.declared.source.ExternFunction.{ExternFunction}
 use Rattle.zw_form.specs.declared.source.Operator.{Operator}
 use Rattle.zw_form.specs.declared.source.Operator.TheVariants.{Add, Subtract, AddWrapping}
 use Rattle.zw_lower.proofs.FileCalls.{IsNameOf, called_are_externs}
+use Rattle.zw_lower.proofs.FileImports.{file_program, file_module}
 use Rattle.zw_lower.proofs.FileNames.{exports_are, extern_is_named}
-use Rattle.zw_lower.proofs.ListParts.{all-append}
+use Rattle.zw_lower.proofs.ListLemmas.{all-append}
 use Rattle.zw_lower.proofs.ModuleNames.{import_is_named}
 use Rattle.zw_lower.proofs.ModuleTypes.{length-numbers_from}
-use Rattle.zw_lower.specs.Modules.{op_of, action_code, writes_locals, body_of, imports_from, exports_from, state_exports, module_of}
+use Rattle.zw_lower.specs.Modules.{op_of, action_code, writes_locals, body_of, imports_from, exports_from, state_exports}
 use Rattle.zw_safety.proofs.CheckedTypes.{add-checked, sub-checked, add_wrap-checked}
 use Rattle.zw_safety.specs.Code.{checked_code}
 use Rattle.zw_wasm.proofs.Closing.{closed-none, closed-then, closed-instr, closed-ends}
@@ -41,10 +42,10 @@ operator_closed scratch Subtract = (sub-checked scratch).closed
 operator_closed scratch AddWrapping = (add_wrap-checked scratch).closed
 
 action_closed : (scratch : ℕ) (a : Action) → IsClosed (action_code scratch a)
-action_closed scratch (action.Parameter n) = closed-instr (LocalGet n) tt
-action_closed scratch (action.Number n) = closed-instr (I32Const _) tt
+action_closed scratch (action.Parameter n) = closed-instr (LocalGet n) refl
+action_closed scratch (action.Number n) = closed-instr (I32Const _) refl
 action_closed scratch (action.Operate operator) = operator_closed scratch operator
-action_closed scratch (action.Call k) = closed-instr (Call k) tt
+action_closed scratch (action.Call k) = closed-instr (Call k) refl
 
 actions_closed : (scratch : ℕ) (actions : List Action) → IsClosed (flat_map (action_code scratch) actions)
 actions_closed scratch [] = closed-none
@@ -97,10 +98,10 @@ exports_have_bytes k imports (f ∷ functions) h = ((h.0, lit< tt), exports_have
 
 -- ---- the module
 
-pub module_well_formed : (trees : List Tree) → KeepsRules (map declaration_of trees) → IsSmall trees → IsWellFormed (module_of (program_of (map declaration_of trees)))
+pub module_well_formed : (trees : List Tree) → KeepsRules (map declaration_of trees) → IsSmall trees → IsWellFormed (file_module trees)
 module_well_formed trees rules small =
     let file = map declaration_of trees in
-    let p = program_of file in
+    let p = file_program trees in
     let names = exports_are IsUtf8 file (recursion_from_All IsUtf8 (map name_of file) (names_are_texts trees small)) in
     let exported = exports_have_bytes (length p.imports) (called_in file) (exports_of file) names in
     record {

@@ -4,9 +4,8 @@ use Rattle.zw_form.specs.Form.{IsSmall}
 use Rattle.zw_form.specs.Rules.{KeepsRules}
 use Rattle.zw_form.specs.Trees.{Tree, declaration_of}
 use Rattle.zw_form.specs.declared.program.Program.{Program}
-use Rattle.zw_lower.proofs.BodyRuns.{body_comes, body_small}
-use Rattle.zw_lower.proofs.CallsAgree.{BodiesCome, file_agrees}
-use Rattle.zw_lower.proofs.ModuleFacts.{file_module}
+use Rattle.zw_lower.proofs.CallsAgree.{file_agrees}
+use Rattle.zw_lower.proofs.FileImports.{file_module}
 use Rattle.zw_lower.proofs.ModuleNames.{module_imports_from_env, module_imports, module_exports}
 use Rattle.zw_lower.proofs.ModuleValid.{module_valid}
 use Rattle.zw_lower.proofs.ModuleWellFormed.{module_well_formed}
@@ -15,16 +14,13 @@ use Rattle.zw_lower.specs.Right.{Does, IsRight}
 use Rattle.zw_wasm.specs.WellFormed.{IsWellFormed}
 use Rattle.zw_wasm.specs.declared.module.Module.{Module}
 
-bodies_come : BodiesCome
-bodies_come = record { comes = body_comes; small = body_small }
-
 file_does : (trees : List Tree) → KeepsRules (map declaration_of trees) → IsSmall trees → Does trees (file_module trees)
 file_does trees rules small = record {
   valid = module_valid trees rules small;
   imports_from_env = module_imports_from_env (map declaration_of trees);
   imports = module_imports (map declaration_of trees);
   exports = module_exports (map declaration_of trees);
-  agrees = file_agrees bodies_come trees rules small;
+  agrees = file_agrees trees rules small;
 }
 
 module_right : (p : Program) → IsRight p (module_of p)

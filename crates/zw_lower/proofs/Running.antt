@@ -81,6 +81,10 @@ Comes m v params pushed events (Stops (Trapped code)) start rest os = ⊥
 abbrev pub one_number : ℕ → List Num
 one_number n = I32 n ∷ []
 
--- operands for arguments, the last first
+-- operands for arguments
+abbrev pub words : List ℕ → List Num
+words ns = map (λ n. I32 n) ns
+
+-- the last first
 abbrev pub numbers_reversed : List ℕ → List Num
-numbers_reversed ns = reverse (map (λ n. I32 n) ns)
+numbers_reversed ns = reverse (words ns)

@@ -1,15 +1,14 @@
 -- What is asked of steps and of a configuration before their code runs, for parts of the steps and further on.
-use Rattle.std.proofs.Common.{◌≡◌, ℕ, zero, suc, ◌+◌, ◌<◌, ◌≤◌, Bool, true, false, List, [], ◌∷◌, ◌++◌, length, sym, ◌∙◌, subst, arith, All, Contains}
-use Rattle.std.proofs.lemmas.List.Elements.{All-nil, All-cons, All-head, All-tail, All-weaker}
-use Rattle.std.proofs.lemmas.Slice.Eq.{bytes_eq-Decides}
-use Rattle.std.specs.Prelude.{slice_index_or, if◌then◌else◌}
-use Rattle.std.specs.Str.{bytes_eq}
+use Rattle.std.proofs.Common.{◌≡◌, ℕ, ◌+◌, ◌≤◌, true, List, ◌++◌, length, sym, ◌∙◌, subst, All, Contains}
+use Rattle.std.proofs.lemmas.List.Elements.{All-weaker}
 use Rattle.zw_form.specs.Form.{FitsStep}
 use Rattle.zw_form.specs.Programs.{number_in, action_of}
 use Rattle.zw_form.specs.Rules.{IsKnown}
 use Rattle.zw_form.specs.declared.source.ExternFunction.{ExternFunction}
 use Rattle.zw_form.specs.declared.source.Step.{Step}
 use Rattle.zw_lower.proofs.ComesCompose.{gone_on}
+use Rattle.zw_lower.proofs.ListLemmas.{All-left, All-right}
+use Rattle.zw_lower.proofs.NameLemmas.{number_in-below}
 use Rattle.zw_lower.proofs.Running.{Imports, Placed}
 use Rattle.zw_lower.specs.Modules.{writes_locals}
 use Rattle.zw_safety.specs.Checked.{HasScratch, KeepsOthers}
@@ -18,34 +17,6 @@ use Rattle.zw_wasm.specs.declared.module.Module.{Module}
 use Rattle.zw_wasm.specs.declared.num.Num.{Num}
 use Rattle.zw_wasm.specs.Reduction.{Config}
 use Rattle.zw_wasm.specs.Signature.{View}
-
-pub all-left : {X : Type 0} (P : X → Type 0) (xs ys : List X) → All P (xs ++ ys) → All P xs
-all-left P [] ys h = All-nil P
-all-left P (x ∷ xs) ys h = All-cons P x xs (All-head P x (xs ++ ys) h) (all-left P xs ys (All-tail P x (xs ++ ys) h))
-
-pub all-right : {X : Type 0} (P : X → Type 0) (xs ys : List X) → All P (xs ++ ys) → All P ys
-all-right P [] ys h = h
-all-right P (x ∷ xs) ys h = all-right P xs ys (All-tail P x (xs ++ ys) h)
-
--- ---- numbers of names
-
-first_or_later-below : (b : Bool) (i n : ℕ) → i < n → (if b then 0 else suc i) < suc n
-first_or_later-below true i n h = omega arith
-first_or_later-below false i n h = omega (arith, h)
-
-number_in-below_at : (names : List (List ℕ)) (name : List ℕ) (k : ℕ) → k < length names → slice_index_or names k name ≡ name → number_in names name < length names
-number_in-below_at [] name k h e = absurd (omega (arith, h))
-number_in-below_at (other ∷ names) name zero h e =
-    let same : bytes_eq other name ≡ true = (bytes_eq-Decides other name).1 e in
-    rw same (omega arith)
-number_in-below_at (other ∷ names) name (suc k) h e =
-    first_or_later-below (bytes_eq other name) (number_in names name) (length names) (number_in-below_at names name k (omega (arith, h)) e)
-
--- a name that is there has a number below the list's length
-pub number_in-below : (names : List (List ℕ)) (name : List ℕ) → Contains names name → number_in names name < length names
-number_in-below names name h = number_in-below_at names name h.0 h.1 h.2
-
--- ---- steps
 
 -- the steps name what is there, and are of 32 bits; what they call is imported; and their code may run here
 pub record Ready (m : Module) (v : View) (externs : List ExternFunction) (imports params : List (List ℕ)) (values : List ℕ → ℕ) (steps : List Step) (callees : List (List ℕ)) (c : Config) : Type 0 where
@@ -62,11 +33,11 @@ HasLocals imports params locals s = writes_locals (action_of imports params s) �
 -- the same of each part of the steps
 pub placed-left : (imports params : List (List ℕ)) (values : List ℕ → ℕ) (steps others : List Step) (c : Config) → Placed imports params values (steps ++ others) c → Placed imports params values steps c
 placed-left imports params values steps others c h =
-    record { small = h.small; locals = h.locals; scratch = all-left (HasLocals imports params c.frame.locals) steps others h.scratch; state = h.state }
+    record { small = h.small; locals = h.locals; scratch = All-left (HasLocals imports params c.frame.locals) steps others h.scratch; state = h.state }
 
 pub placed-right : (imports params : List (List ℕ)) (values : List ℕ → ℕ) (steps others : List Step) (c : Config) → Placed imports params values (steps ++ others) c → Placed imports params values others c
 placed-right imports params values steps others c h =
-    record { small = h.small; locals = h.locals; scratch = all-right (HasLocals imports params c.frame.locals) steps others h.scratch; state = h.state }
+    record { small = h.small; locals = h.locals; scratch = All-right (HasLocals imports params c.frame.locals) steps others h.scratch; state = h.state }
 
 -- and behind code that goes on
 pub placed-on : (imports params : List (List ℕ)) (values : List ℕ → ℕ) (steps : List Step) (c : Config) (events : List HostEvent) (left : List ℕ) (locals : List Num) → Placed imports params values steps c → KeepsOthers (length params) c.frame.locals locals → Placed imports params values steps (gone_on events left locals c)
@@ -80,18 +51,18 @@ placed-on imports params values steps c events left locals h kept = record {
 pub ready-left : {m : Module} {v : View} {externs : List ExternFunction} {imports params : List (List ℕ)} {values : List ℕ → ℕ} {c : Config} → (steps others : List Step) (callees more : List (List ℕ)) → Ready m v externs imports params values (steps ++ others) (callees ++ more) c → Ready m v externs imports params values steps callees c
 ready-left {externs = externs} {imports = imports} {params = params} {values = values} {c = c} steps others callees more h = record {
   imported = h.imported;
-  known = all-left (IsKnown externs params) steps others h.known;
-  fits = all-left FitsStep steps others h.fits;
-  called = all-left (Contains imports) callees more h.called;
+  known = All-left (IsKnown externs params) steps others h.known;
+  fits = All-left FitsStep steps others h.fits;
+  called = All-left (Contains imports) callees more h.called;
   at = placed-left imports params values steps others c h.at;
 }
 
 pub ready-right : {m : Module} {v : View} {externs : List ExternFunction} {imports params : List (List ℕ)} {values : List ℕ → ℕ} {c : Config} → (steps others : List Step) (callees more : List (List ℕ)) → Ready m v externs imports params values (steps ++ others) (callees ++ more) c → Ready m v externs imports params values others more c
 ready-right {externs = externs} {imports = imports} {params = params} {values = values} {c = c} steps others callees more h = record {
   imported = h.imported;
-  known = all-right (IsKnown externs params) steps others h.known;
-  fits = all-right FitsStep steps others h.fits;
-  called = all-right (Contains imports) callees more h.called;
+  known = All-right (IsKnown externs params) steps others h.known;
+  fits = All-right FitsStep steps others h.fits;
+  called = All-right (Contains imports) callees more h.called;
   at = placed-right imports params values steps others c h.at;
 }
 
@@ -99,9 +70,9 @@ ready-right {externs = externs} {imports = imports} {params = params} {values = 
 pub ready-args : {m : Module} {v : View} {externs : List ExternFunction} {imports params : List (List ℕ)} {values : List ℕ → ℕ} {c : Config} → (steps others : List Step) (callees more : List (List ℕ)) → Ready m v externs imports params values (steps ++ others) (callees ++ more) c → Ready m v externs imports params values steps more c
 ready-args {externs = externs} {imports = imports} {params = params} {values = values} {c = c} steps others callees more h = record {
   imported = h.imported;
-  known = all-left (IsKnown externs params) steps others h.known;
-  fits = all-left FitsStep steps others h.fits;
-  called = all-right (Contains imports) callees more h.called;
+  known = All-left (IsKnown externs params) steps others h.known;
+  fits = All-left FitsStep steps others h.fits;
+  called = All-right (Contains imports) callees more h.called;
   at = placed-left imports params values steps others c h.at;
 }
 

@@ -16,13 +16,13 @@ use Rattle.zw_form.specs.declared.source.Step.{Step}
 use Rattle.zw_form.specs.declared.source.Step.TheVariants as step
 use Rattle.zw_lower.proofs.BodySmall.{AreArgs}
 use Rattle.zw_lower.proofs.ComesCompose.{gone_on, IfGives, comes-then, goes_on-quietly, goes_on-pushing}
-use Rattle.zw_lower.proofs.HostCalls.{IsHostCall, words, host_call}
-use Rattle.zw_lower.proofs.Running.{Comes, GoesOn, Imports, one_number, numbers_reversed, steps_code}
+use Rattle.zw_lower.proofs.HostCalls.{IsHostCall, host_call}
+use Rattle.zw_lower.proofs.Running.{Comes, GoesOn, Imports, one_number, numbers_reversed, steps_code, words}
 use Rattle.zw_lower.proofs.StepsReady.{Ready, HasLocals}
 use Rattle.zw_lower.specs.Modules.{action_code}
 use Rattle.zw_safety.proofs.CheckedTypes.{add-checked, sub-checked, add_wrap-checked}
 use Rattle.zw_safety.proofs.Locals.{keeps-same}
-use Rattle.zw_safety.specs.Code.{integer_overflow}
+use Rattle.zw_session.specs.Causes.{integer_overflow}
 use Rattle.zw_safety.specs.Checked.{Answers, KeepsOthers, panicked}
 use Rattle.zw_wasm.proofs.RunsCompose.{runs-none, runs-local_get, runs-i32_const, runs-host_void, runs-host_reply, halts-host_wants}
 use Rattle.zw_wasm.specs.declared.module.Instr.{Instr}

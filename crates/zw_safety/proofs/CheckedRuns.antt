@@ -9,7 +9,8 @@ use Rattle.zw_num.specs.Arithmetic.{sum_in, difference_in, add_wrap_unsigned}
 use Rattle.zw_safety.proofs.Locals.{slice_get-set_same, slice_get-set_other, keeps-same, keeps-set}
 use Rattle.zw_safety.proofs.Panics.{if_panics-halts, if_panics-passed}
 use Rattle.zw_safety.specs.Checked.{HasScratch, HasPanicState, KeepsOthers, Answers}
-use Rattle.zw_safety.specs.Code.{kept, add_code, sub_code, if_panics, integer_overflow}
+use Rattle.zw_safety.specs.Code.{kept, add_code, sub_code, if_panics}
+use Rattle.zw_session.specs.Causes.{integer_overflow}
 use Rattle.zw_wasm.proofs.RunsCompose.{runs-then, halts-then, runs-local_get, runs-local_set, runs-i32_add, runs-i32_sub, runs-i32_lt_u}
 use Rattle.zw_wasm.specs.declared.module.Instr.{Instr}
 use Rattle.zw_wasm.specs.declared.module.Instr.TheVariants.{LocalGet, LocalSet, I32LtU, I32Add, I32Sub}

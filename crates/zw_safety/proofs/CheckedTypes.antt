@@ -5,7 +5,8 @@ use Rattle.zw_num.specs.declared.int_ty.IntTy.{IntTy}
 use Rattle.zw_num.specs.declared.op.TheConstants.{ADD, SUB, ADD_WRAP}
 use Rattle.zw_safety.proofs.CheckedRuns.{add-answers, sub-answers, add_wrap-answers}
 use Rattle.zw_safety.specs.Checked.{IsBuilt, ScratchIsTyped, IsNumberGlobal, PanicStateIsTyped, IsChecked}
-use Rattle.zw_safety.specs.Code.{kept, if_panics, integer_overflow, add_code, sub_code, checked_code}
+use Rattle.zw_safety.specs.Code.{kept, if_panics, add_code, sub_code, checked_code}
+use Rattle.zw_session.specs.Causes.{integer_overflow}
 use Rattle.zw_wasm.proofs.TypingTakes.{takes-then, takes-local_get, takes-local_set, takes-global_set, takes-i32_const, takes-i32_add, takes-i32_sub, takes-i32_lt_u, takes-if_unreachable}
 use Rattle.zw_wasm.specs.declared.module.Instr.TheVariants.{GlobalSet}
 use Rattle.zw_wasm.specs.declared.module.ValType.{ValType}

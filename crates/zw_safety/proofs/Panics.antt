@@ -3,7 +3,8 @@ use Rattle.std.proofs.Common.{◌≡◌, ℕ, pos, ◌<◌, List, [], ◌∷◌,
 use Rattle.std.specs.Prelude.{slice_set}
 use Rattle.std.proofs.lemmas.List.{length-set}
 use Rattle.zw_safety.specs.Checked.{HasPanicState, panicked}
-use Rattle.zw_safety.specs.Code.{if_panics, integer_overflow}
+use Rattle.zw_safety.specs.Code.{if_panics}
+use Rattle.zw_session.specs.Causes.{integer_overflow}
 use Rattle.zw_wasm.proofs.RunsCompose.{runs-then, halts-then, halts-unreachable, runs-i32_const, runs-global_set, runs-choice_first, runs-choice_passed}
 use Rattle.zw_wasm.specs.declared.module.Instr.{Instr}
 use Rattle.zw_wasm.specs.declared.module.Instr.TheVariants.{Unreachable, GlobalSet, I32Const}

@@ -5,7 +5,7 @@ use Rattle.zw_num.specs.Arithmetic.{sum_in, difference_in, add_wrap_unsigned}
 use Rattle.zw_num.specs.declared.int_ty.IntTy.{IntTy}
 use Rattle.zw_num.specs.declared.int_ty.IntTy.TheVariants.{Sized}
 use Rattle.zw_num.specs.declared.op.TheConstants.{ADD, SUB, ADD_WRAP}
-use Rattle.zw_safety.specs.Code.{integer_overflow}
+use Rattle.zw_session.specs.Causes.{integer_overflow}
 use Rattle.zw_wasm.specs.declared.module.GlobalDef.{GlobalDef}
 use Rattle.zw_wasm.specs.declared.module.Instr.{Instr}
 use Rattle.zw_wasm.specs.declared.module.Module.{Module}

@@ -1,12 +1,9 @@
 -- The code of checked operators.
 use Rattle.std.specs.Prelude.{ℕ, pos, ◌+◌, nat_eq, List, [], ◌∷◌, ◌++◌, None, if◌then◌else◌}
+use Rattle.zw_session.specs.Causes.{integer_overflow}
 use Rattle.zw_num.specs.declared.op.TheConstants.{ADD, SUB}
 use Rattle.zw_wasm.specs.declared.module.Instr.{Instr}
 use Rattle.zw_wasm.specs.declared.module.Instr.TheVariants.{Unreachable, If, End, LocalGet, LocalSet, GlobalSet, I32Const, I32LtU, I32Add, I32Sub}
-
--- the cause of a panic where the exact result isn't in the type
-abbrev pub integer_overflow : ℕ
-integer_overflow = 1
 
 -- a panic with this cause and no message: the cause and where the message lies are set, and the code traps
 abbrev pub panic_code : ℕ → List Instr

@@ -1,4 +1,5 @@
 pub mod Lists
+pub mod Causes
 pub mod Sessions
 pub mod Agrees
 pub mod Bounds

@@ -11,9 +11,9 @@ closed-none = record { by = λ open_ifs rest h. h }
 
 -- a plain instruction is passed over
 plain-passed : (i : Instr) → IsPlain i → (open_ifs : List Bool) (rest : List Instr) → ClosesIn open_ifs rest → ClosesIn open_ifs (i ∷ rest)
-plain-passed (If result) is_plain open_ifs rest h = absurd is_plain
-plain-passed Else is_plain open_ifs rest h = absurd is_plain
-plain-passed End is_plain open_ifs rest h = absurd is_plain
+plain-passed (If result) is_plain open_ifs rest h = absurd (cc)
+plain-passed Else is_plain open_ifs rest h = absurd (cc)
+plain-passed End is_plain open_ifs rest h = absurd (cc)
 plain-passed i is_plain open_ifs rest h = h
 
 pub closed-instr : (i : Instr) → IsPlain i → IsClosed (i ∷ [])
@@ -82,7 +82,7 @@ closes-rest (Else ∷ instrs) (true ∷ outer) h = turns outer [] instrs empty (
 closes-rest (Else ∷ instrs) (false ∷ outer) h = absurd h
 closes-rest (End ∷ instrs) [] h = rw h (last [] empty)
 closes-rest (End ∷ instrs) (may_else ∷ outer) h = ends may_else outer [] instrs empty (closes-rest instrs outer h)
-closes-rest (i ∷ instrs) open_ifs h = put_before (i ∷ []) (λ is s. plain i is tt s) open_ifs instrs (closes-rest instrs open_ifs h)
+closes-rest (i ∷ instrs) open_ifs h = put_before (i ∷ []) (λ is s. plain i is refl s) open_ifs instrs (closes-rest instrs open_ifs h)
 
 rest-sequence : (instrs : List Instr) → IsRest [] instrs → IsEndedSequence instrs
 rest-sequence _ (last is s) = record { sequence = is; by_grammar = s; whole = refl }

@@ -85,7 +85,7 @@ abbrev pub IsValueType : ValType → List ℕ → Type 0
 IsValueType I32 = Byte 0x7F
 IsValueType I64 = Byte 0x7E
 
--- the result of a function, of which there is at most one (5.3.2)
+-- the result of a function, of which there is at most one (5.3.3)
 abbrev pub IsResultType : Option ValType → List ℕ → Type 0
 IsResultType None = IsVector IsValueType []
 IsResultType (Some t) = IsVector IsValueType (t ∷ [])
@@ -114,7 +114,7 @@ IsMutability true = Byte 0x01
 
 -- ---- instructions
 
--- the type of a block's result, where it has one (5.4.1)
+-- the type of a block's result, where it has one (5.3.2)
 abbrev pub IsBlockType : Option ValType → List ℕ → Type 0
 IsBlockType None = Byte 0x40
 IsBlockType (Some t) = IsValueType t

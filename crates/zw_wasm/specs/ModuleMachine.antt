@@ -2,6 +2,7 @@
 -- bounded number of instructions; what a session may see of it is its result, its host calls, or how it halted.
 use Rattle.std.specs.Prelude.{ℕ, suc, pos, negsuc, ◌+◌, ◌*◌, ◌-◌, ◌%◌, ◌^◌, Bool, true, false, ◌&&◌, nat_eq, nat_le, List, [], ◌∷◌, ◌++◌, length, map, take, drop, replicate, codes, Option, Some, None, is_some, slice_get, if◌then◌else◌}
 use Rattle.std.specs.Str.{bytes_eq}
+use Rattle.zw_session.specs.Causes.{message_cause, last_cause}
 use Rattle.zw_session.specs.Sessions.{Scalar, Number, Truth, Call, Halt, Panicked, WantsReply, Running, Trapped, CallEnd, Returned, Halted, Outcome, Machine}
 use Rattle.zw_wasm.specs.declared.module.DataSegment.{DataSegment}
 use Rattle.zw_wasm.specs.declared.module.Element.{Element}
@@ -111,13 +112,6 @@ global_at store (Some g) = i32_of (slice_get store.globals g)
 
 abbrev pub exported_global : Module → Store → List ℕ → Option ℕ
 exported_global m store name = global_at store (export_in GLOBAL name m.exports)
-
--- the cause of a panic whose message is given, and the last cause
-abbrev pub message_cause : ℕ
-message_cause = 18
-
-abbrev pub last_cause : ℕ
-last_cause = 19
 
 -- a panic with a message, where all its bytes are in the memory
 abbrev pub panic_with : Option (List ℕ) → Halt

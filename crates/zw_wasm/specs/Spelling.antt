@@ -32,7 +32,7 @@ abbrev pub value_type : ValType → List ℕ
 value_type I32 = 0x7F ∷ []
 value_type I64 = 0x7E ∷ []
 
--- the result of a function, of which there is at most one (5.3.2)
+-- the result of a function, of which there is at most one (5.3.3)
 abbrev pub result_type : Option ValType → List ℕ
 result_type None = 0 ∷ []
 result_type (Some t) = 1 ∷ value_type t
@@ -59,7 +59,7 @@ abbrev pub mutability : Bool → List ℕ
 mutability false = 0 ∷ []
 mutability true = 1 ∷ []
 
--- the type of a block's result, where it has one (5.4.1)
+-- the type of a block's result, where it has one (5.3.2)
 abbrev pub block_type : Option ValType → List ℕ
 block_type None = 0x40 ∷ []
 block_type (Some t) = value_type t

@@ -73,7 +73,7 @@ parts (i ∷ is) = begun_with (λ rest. Plain i rest) (parts is)
 abbrev pub code_of : List Instr → Code
 code_of is = (first_part (parts is)).code
 
--- an instruction that begins, divides or ends no sequence
+-- a plain instruction, which begins, divides or ends no sequence (6.5)
 abbrev pub is_plain : Instr → Bool
 is_plain (If result) = false
 is_plain Else = false

@@ -1,7 +1,7 @@
 -- What the bytes of a module ask of it beside numbers of 32 bits: its names are UTF-8, its exports are of a kind that
 -- there is, each list of instructions ends where its own end stands, and each function has its code. And which lists of
 -- instructions end so: those of the grammar, which are made of closed ones.
-use Rattle.std.specs.Prelude.{◌≡◌, ◌<◌, ◌^◌, Bool, List, [], ◌∷◌, ◌++◌, length, Option, None, IsUtf8}
+use Rattle.std.specs.Prelude.{◌≡◌, ◌<◌, ◌^◌, Bool, true, List, [], ◌∷◌, ◌++◌, length, Option, None, IsUtf8}
 use Rattle.std.specs.List.{AllByRecursion}
 use Rattle.zw_wasm.specs.declared.module.FuncImport.{FuncImport}
 use Rattle.zw_wasm.specs.declared.module.GlobalDef.{GlobalDef}
@@ -13,6 +13,7 @@ use Rattle.zw_wasm.specs.declared.module.Instr.{Instr}
 use Rattle.zw_wasm.specs.declared.module.Instr.TheVariants.{Unreachable, If, Else, End}
 use Rattle.zw_wasm.specs.declared.module.Module.{Module}
 use Rattle.zw_wasm.specs.declared.module.ValType.{ValType}
+use Rattle.zw_wasm.specs.Structure.{is_plain}
 use Rattle.zw_wasm.specs.ModuleBytes.{ClosesIn, EndsOnce, local_count}
 
 abbrev pub HasNames : FuncImport → Type 0
@@ -35,12 +36,9 @@ pub record IsWellFormed (m : Module) : Type 0 where
 
 -- ---- sequences of instructions
 
--- an instruction that neither begins nor ends a sequence (6.5)
+-- a plain instruction (6.5)
 abbrev pub IsPlain : Instr → Type 0
-IsPlain (If result) = ⊥
-IsPlain Else = ⊥
-IsPlain End = ⊥
-IsPlain i = Unit {0}
+IsPlain i = is_plain i ≡ true
 
 -- Instructions that end all that they begin, and nothing else: they may stand before any others.
 pub record IsClosed (is : List Instr) : Type 0 where

@@ -44,7 +44,7 @@ impl Encode for Immediate {
     }
 }
 
-/// Appends the type of a block's result, where it has one (5.4.1).
+/// Appends the type of a block's result, where it has one (5.3.2).
 fn push_block_type(out: &mut Vec<u8>, ty: Option<ValType>) -> Result<(), Oom>
     ensures { OnOk result (out.new.items ≡ out.old.items ++ block_type ty) }
 {

@@ -1,3 +1,4 @@
+-- The loop of `bodies::code`: the code so far, and then that of the actions left, is that of all actions.
 use Rattle.std.proofs.Common.{◌≡◌, ◌++◌, drop}
 use Rattle.std.specs.List.{flat_map}
 use Rattle.zw_lower.specs.Modules.{action_code}

@@ -1,3 +1,4 @@
+-- The loop of `tables::function_numbers`: the numbers so far, and then those of the functions left, are those of all functions.
 use Rattle.std.proofs.Common.{◌≡◌, ◌++◌, length, drop}
 use Rattle.zw_lower.specs.Modules.{numbers_from}
 use Rattle.zw_lower.proofs.tables.function_numbers.Given as goal

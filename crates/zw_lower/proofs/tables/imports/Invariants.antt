@@ -1,3 +1,4 @@
+-- The loop of `tables::imports`: the imports so far, and then those left, are those of the program.
 use Rattle.std.proofs.Common.{◌≡◌, ◌++◌, drop}
 use Rattle.zw_lower.specs.Modules.{imports_from}
 use Rattle.zw_lower.proofs.tables.imports.Given as goal

@@ -1,10 +1,14 @@
--- Parts of lists: what holds of each item of a part, what a part contains, and an item by its place.
-use Rattle.std.proofs.Common.{◌≡◌, ◌⊎◌, inl, inr, ℕ, zero, suc, ◌+◌, ◌<◌, List, [], ◌∷◌, ◌++◌, length, Some, All, Contains, refl, ap, ◌∙◌, subst, arith}
+-- General lemmas on lists: parts of joined lists, what a list contains, and the item at a place.
+use Rattle.std.proofs.Common.{◌≡◌, ◌⊎◌, inl, inr, ℕ, zero, suc, ◌+◌, ◌<◌, Bool, true, List, [], ◌∷◌, ◌++◌, length, map, get_or, Some, All, Contains, refl, ap, ◌∙◌, subst, arith}
 use Rattle.std.specs.Prelude.{slice_get}
-use Rattle.std.specs.List.{AllByRecursion, flat_map}
-use Rattle.std.proofs.lemmas.List.{take_at, drop_at}
-use Rattle.std.proofs.lemmas.List.Elements.{All-nil, All-cons, All-head, All-tail, All-take, All-drop, All-append}
-use Rattle.std.proofs.lemmas.Option.{same_Some}
+use Rattle.std.specs.List.{AllByRecursion, flat_map, list_any}
+use Rattle.std.specs.Option.{option_map}
+use Rattle.std.proofs.lemmas.List.{length-map, get_or-map, take_at, drop_at}
+use Rattle.std.proofs.lemmas.List.Elements.{All-nil, All-cons, All-head, All-tail, All-take, All-drop, All-append, All-get_or}
+use Rattle.std.proofs.lemmas.List.Folds.{list_any_at}
+use Rattle.std.proofs.lemmas.Option.{slice_get-map, slice_get_within, get_or_from_slice_get}
+
+-- ---- parts of lists
 
 pub All-left : {X : Type 0} (P : X → Type 0) (xs ys : List X) → All P (xs ++ ys) → All P xs
 All-left {X} P xs ys h = subst (λ (zs : List X). All P zs) (take_at xs ys (length xs) refl) (All-take P (length xs) (xs ++ ys) h)
@@ -27,6 +31,7 @@ all-append P (x ∷ xs) ys h k = (h.0, all-append P xs ys h.1 k)
 
 -- ---- what a list contains
 
+-- what is in a list is its first item or stands behind it
 pub Contains-cases : {X : Type 0} (y : X) (ys : List X) (x : X) → Contains (y ∷ ys) x → (y ≡ x) ⊎ Contains ys x
 Contains-cases y ys x (zero, below, is) = inl is
 Contains-cases y ys x (suc k, below, is) = inr (k, omega (arith, below), is)
@@ -37,12 +42,11 @@ Contains-head x xs = (0, omega arith, refl)
 pub Contains-tail : {X : Type 0} (y : X) (xs : List X) (x : X) → Contains xs x → Contains (y ∷ xs) x
 Contains-tail y xs x h = (suc h.0, omega (arith, h.1), h.2)
 
--- ---- items by their places
+-- ---- the item at a place
 
-pub by_place : {X : Type 0} (P : X → Type 0) (xs : List X) (j : ℕ) (x : X) → AllByRecursion P xs → slice_get xs j ≡ Some x → P x
-by_place P [] j x h is = absurd (cc)
-by_place P (y ∷ xs) zero x h is = subst P (same_Some y x is) h.0
-by_place P (y ∷ xs) (suc j) x h is = by_place P xs j x h.1 is
+-- what holds of all holds of what stands at a place
+pub All-at : {X : Type 0} (P : X → Type 0) (xs : List X) (k : ℕ) (x : X) → All P xs → slice_get xs k ≡ Some x → P x
+All-at P xs k x h is = subst P (get_or_from_slice_get xs k x x is) (All-get_or P xs k x (slice_get_within xs k x is) h)
 
 pub slice_get-append_left : {X : Type 0} (xs ys : List X) (i : ℕ) → i < length xs → slice_get (xs ++ ys) i ≡ slice_get xs i
 slice_get-append_left [] ys i h = absurd (omega (arith, h))
@@ -54,3 +58,11 @@ slice_get-append_right [] ys n i e = ap (slice_get ys) (omega (arith, e))
 slice_get-append_right (x ∷ xs) ys n i e =
     let at : n + i ≡ suc (length xs + i) = omega (arith, e) in
     ap (slice_get (x ∷ (xs ++ ys))) at ∙ slice_get-append_right xs ys (length xs) i refl
+
+pub slice_get-map_some : {X Y : Type 0} (f : X → Y) (xs : List X) (i : ℕ) (x : X) → slice_get xs i ≡ Some x → slice_get (map f xs) i ≡ Some (f x)
+slice_get-map_some f xs i x is = slice_get-map f xs i ∙ ap (option_map f) is
+
+-- one item settles a test of what the items become
+pub list_any-map_at : {X Y : Type 0} (test : Y → Bool) (g : X → Y) (xs : List X) (k : ℕ) (d : X) → k < length xs → test (g (get_or xs k d)) ≡ true → list_any test (map g xs) ≡ true
+list_any-map_at test g xs k d within e =
+    list_any_at test (map g xs) k (g d) (omega (arith, within, length-map xs g)) (ap test (get_or-map g xs k d (g d) within) ∙ e)
