@@ -1,13 +1,15 @@
-// Sessions with modules that were built from texts, run by the plain interpreter. What each is to give is worked out by
-// hand from docs/LANGUAGE.md.
+// Sessions with modules that were built from texts, run by the plain interpreter. The bytes that the top call writes are
+// those of the module that is run. What each session is to give is worked out by hand from docs/LANGUAGE.md.
+use super::{ROOM, build, tree_of, words_of};
 use crate::compile::compile;
+use crate::zig;
 use sqlite_items::Items;
 use std::alloc::Global;
 use std::test::Fail;
-use zw_base::{Oom, Refused};
+use zw_base::{MemSink, MemSource, Oom, Refused};
 use zw_wasm::{
     HostCall, Module, Num, RunEnd, RunState, exported_function, exported_global, first_globals,
-    run_function,
+    run_function, write,
 };
 
 /// More instructions than any call below takes.
@@ -20,7 +22,10 @@ enum Ends {
     With(u32),
     /// It panics with this cause.
     Panics(u32),
+    /// It wants a reply, and none is left.
     WantsReply,
+    /// An earlier call ended the session.
+    NotMade,
     /// It does something else.
     Otherwise,
 }
@@ -101,18 +106,41 @@ fn saw(alloc: Global, calls: &[HostCall], seen: &[(u32, &[u32])]) -> Result<bool
     Ok(true)
 }
 
+/// Whether the top call writes this module for a text.
+fn is_written(alloc: Global, text: &[u8], module: &Module) -> Result<bool, Oom> {
+    let words = words_of(alloc, &[b"build", b"a.zig"])?;
+    let mut tree = tree_of(alloc, &build(text, 0, b"", b""))?;
+    let mut input = MemSource::new(Vec::new(alloc), Vec::new(alloc));
+    let mut out = MemSink::new(alloc, Vec::new(alloc), ROOM);
+    let mut diag = MemSink::new(alloc, Vec::new(alloc), ROOM);
+    let status = zig(alloc, &words, &mut tree, &mut input, &mut out, &mut diag);
+    let mut own = MemSink::new(alloc, Vec::new(alloc), ROOM);
+    let is_whole = write(alloc, module, &mut own).is_ok();
+    Ok(status == 0 && is_whole && out.taken() == own.taken())
+}
+
 /// Whether the session goes as it is to.
 fn goes(alloc: Global, session: &Session<'_>) -> Result<bool, Refused> {
     let module = compile(alloc, session.text)?;
+    if !is_written(alloc, session.text, &module)? {
+        return Ok(false);
+    }
     let mut state = RunState {
         globals: first_globals(alloc, &module)?,
         replies: Items::from_slice(alloc, session.replies)?,
         calls: Items::new(alloc),
     };
+    let mut is_over = false;
     for (name, args, end) in session.calls {
-        if end_of(alloc, &module, name, args, &mut state)? != *end {
+        let own = if is_over {
+            Ends::NotMade
+        } else {
+            end_of(alloc, &module, name, args, &mut state)?
+        };
+        if own != *end {
             return Ok(false);
         }
+        is_over = !matches!(own, Ends::With(_));
     }
     Ok(saw(alloc, state.calls.as_slice(), session.seen)?)
 }
@@ -120,6 +148,10 @@ fn goes(alloc: Global, session: &Session<'_>) -> Result<bool, Refused> {
 const WRAPS: &[u8] = b"export fn f(a: u32, b: u32) u32 { return a +% b; }";
 
 const ADDS: &[u8] = b"export fn f(a: u32, b: u32) u32 { return a + b; }";
+
+const ADDS_NUMBERS: &[u8] = b"export fn f(a: u32) u32 { return a + 1 + 2; }";
+
+const SUBTRACTS: &[u8] = b"export fn f(a: u32, b: u32) u32 { return 10 - a +% 4294967281 +% b; }";
 
 const TICKS: &[u8] =
     b"extern fn tick(x: u32) void; export fn g(a: u32, b: u32) u32 { tick(a); return a - b; }";
@@ -137,16 +169,18 @@ const TWO: &[u8] =
     b"extern fn a() void; extern fn b() void; export fn f() u32 { b(); return 1; } export fn g() u32 { a(); b(); return 2; }";
 
 #[rattlefmt::skip]
-const SESSIONS: [Session<'static>; 15] = [
+const SESSIONS: [Session<'static>; 17] = [
     Session { text: WRAPS, replies: &[], calls: &[(b"f", &[4294967295, 2], Ends::With(1)), (b"f", &[20, 3], Ends::With(23))], seen: &[] },
     Session { text: ADDS, replies: &[], calls: &[(b"f", &[4294967294, 1], Ends::With(4294967295)), (b"f", &[0, 0], Ends::With(0))], seen: &[] },
-    Session { text: ADDS, replies: &[], calls: &[(b"f", &[1, 2], Ends::With(3)), (b"f", &[4294967295, 1], Ends::Panics(1))], seen: &[] },
+    Session { text: ADDS, replies: &[], calls: &[(b"f", &[1, 2], Ends::With(3)), (b"f", &[4294967295, 1], Ends::Panics(1)), (b"f", &[1, 1], Ends::NotMade)], seen: &[] },
     Session { text: ADDS, replies: &[], calls: &[(b"f", &[2147483648, 2147483648], Ends::Panics(1))], seen: &[] },
+    Session { text: ADDS_NUMBERS, replies: &[], calls: &[(b"f", &[5], Ends::With(8)), (b"f", &[4294967293], Ends::Panics(1))], seen: &[] },
+    Session { text: SUBTRACTS, replies: &[], calls: &[(b"f", &[5, 7], Ends::With(4294967293)), (b"f", &[11, 0], Ends::Panics(1))], seen: &[] },
     Session { text: TICKS, replies: &[], calls: &[(b"g", &[2, 3], Ends::Panics(1))], seen: &[(0, &[2])] },
     Session { text: TICKS, replies: &[], calls: &[(b"g", &[3, 2], Ends::With(1)), (b"g", &[3, 3], Ends::With(0))], seen: &[(0, &[3]), (0, &[3])] },
     Session { text: ASKS, replies: &[300], calls: &[(b"f", &[], Ends::With(300))], seen: &[(0, &[])] },
     Session { text: ASKS, replies: &[4294967301, 4294967295], calls: &[(b"f", &[], Ends::With(5)), (b"f", &[], Ends::With(4294967295))], seen: &[(0, &[]), (0, &[])] },
-    Session { text: ASKS, replies: &[7], calls: &[(b"f", &[], Ends::With(7)), (b"f", &[], Ends::WantsReply)], seen: &[(0, &[]), (0, &[])] },
+    Session { text: ASKS, replies: &[7], calls: &[(b"f", &[], Ends::With(7)), (b"f", &[], Ends::WantsReply), (b"f", &[], Ends::NotMade)], seen: &[(0, &[]), (0, &[])] },
     Session { text: NESTED, replies: &[10, 20, 7], calls: &[(b"h", &[5], Ends::With(6))], seen: &[(1, &[5]), (1, &[6]), (0, &[10, 20])] },
     Session { text: NESTED, replies: &[10], calls: &[(b"h", &[4294967295], Ends::Panics(1))], seen: &[(1, &[4294967295])] },
     Session { text: PANICS_FIRST, replies: &[1, 1], calls: &[(b"g", &[4294967295], Ends::Panics(1))], seen: &[(0, &[1])] },
