@@ -8,14 +8,18 @@ use Rattle.zw_base.specs.declared.files.Answer.TheVariants.{Bytes}
 use Rattle.zw_base.specs.declared.files.Handed.{Handed}
 use Rattle.zw_base.specs.declared.stop.Stop.{Stop}
 use Rattle.zw_drive.specs.Due.{IsRootDue, IsBuildDue, IsStop}
+use Rattle.zw_form.specs.Form.{IsStopOf}
+use Rattle.zw_token.specs.ErrorNumbers.{number_of_error}
+use Rattle.zw_token.specs.declared.token.TextError.{TextError}
+use Rattle.zw_token.specs.declared.token.TextError.TheVariants.{BadByte, BadToken, BadLiteral, NotInProfile}
 use Rattle.zw_drive.specs.Ends.{Adds, LoadEnds, WritesText, WritesTree}
 use Rattle.zw_drive.specs.Lines.{IsNamed, stop_line}
-use Rattle.zw_drive.specs.Meaning.{Builds, IsUnbuilt}
+use Rattle.zw_drive.specs.Meaning.{Builds}
 use Rattle.zw_drive.specs.Stops.{at_start}
 use Rattle.zw_drive.specs.declared.build.TheConstants.{FILE_LIMIT}
 use Rattle.zw_drive.specs.declared.build.BuildErr.{BuildErr}
 use Rattle.zw_drive.specs.declared.build.BuildErr.TheVariants as build
-use Rattle.zw_drive.specs.declared.stops.TheConstants.{IMPORT_PATH, NOT_BUILT}
+use Rattle.zw_drive.specs.declared.stops.TheConstants.{IMPORT_PATH}
 
 -- known bytes that stay grow by nothing
 pub Appends-none : (taken : Option (List ℕ)) → Appends taken taken []
@@ -29,7 +33,7 @@ IsZig root = ends_with nat_eq root (codes ".zig") ≡ true
 -- what is due for a root that may be loaded
 pub due_loaded : (root : List ℕ) (files : List Handed) (status : ℕ) (out line : List ℕ) → IsZig root → IsRootDue root files status out line → IsBuildDue root files status out line
 due_loaded root files status out line zig due =
-    subst (λ (b : Bool). MatchBool b (IsRootDue root files status out line) ((files ≡ []) × IsStop root IMPORT_PATH status out line)) (sym zig) due
+    subst (λ (b : Bool). MatchBool b (IsRootDue root files status out line) ((files ≡ []) × IsStop root (at_start IMPORT_PATH) status out line)) (sym zig) due
 
 -- the pair that the load of the root gives
 abbrev pub pair_of : List ℕ → Answer → List Handed
@@ -40,20 +44,28 @@ pub due_module : (root text out : List ℕ) → IsZig root → length text ≤ F
 due_module root text out zig fits builds =
     due_loaded root (pair_of root (Bytes text)) 0 out [] zig (Bytes text, refl, record { fits = fits; due = inl (builds, record { status_is = refl; line_is = refl }) })
 
--- the stop of a text that isn't of the form is due
-pub due_unbuilt : (root text : List ℕ) (stop : Stop) → IsZig root → length text ≤ FILE_LIMIT → stop ≡ at_start NOT_BUILT → IsUnbuilt text → IsBuildDue root (pair_of root (Bytes text)) 1 [] (stop_line root stop)
-due_unbuilt root text stop zig fits is unbuilt =
-    due_loaded root (pair_of root (Bytes text)) 1 [] (stop_line root stop) zig (Bytes text, refl, record { fits = fits; due = inr (unbuilt, record { status_is = refl; out_is = refl; line_is = ap (stop_line root) is }) })
+-- the stop of a text is due
+pub due_stopped : (root text : List ℕ) (stop : Stop) → IsZig root → length text ≤ FILE_LIMIT → IsStopOf text stop → IsBuildDue root (pair_of root (Bytes text)) 1 [] (stop_line root stop)
+due_stopped root text stop zig fits stops =
+    due_loaded root (pair_of root (Bytes text)) 1 [] (stop_line root stop) zig (Bytes text, refl, record { fits = fits; due = inr (stop, stops, record { status_is = refl; out_is = refl; line_is = refl }) })
 
-unbuilt_named : (stop : Stop) → stop ≡ at_start NOT_BUILT → IsNamed stop.kind
-unbuilt_named stop is = subst (λ (s : Stop). IsNamed s.kind) (sym is) (lit≤ tt, lit≤ tt)
+error_named : (error : TextError) → (1 ≤ number_of_error error) × (number_of_error error ≤ 36)
+error_named BadByte = (lit≤ tt, lit≤ tt)
+error_named BadToken = (lit≤ tt, lit≤ tt)
+error_named BadLiteral = (lit≤ tt, lit≤ tt)
+error_named NotInProfile = (lit≤ tt, lit≤ tt)
+
+-- the stop of a text has a name
+stop_named : (text : List ℕ) (stop : Stop) → IsStopOf text stop → IsNamed stop.kind
+stop_named text stop (inl (at, error, stops, is)) = subst (λ (s : Stop). IsNamed s.kind) (sym is) (error_named error)
+stop_named text stop (inr unbuilt) = subst (λ (s : Stop). IsNamed s.kind) (sym unbuilt.is_not_built) (lit≤ tt, lit≤ tt)
 
 -- the text of a root was built
 pub writes_text : (root : List ℕ) (old new : List Handed) (before after : Option (List ℕ)) (text : List ℕ) (result : Result (Unit {0}) BuildErr) → IsZig root → Adds old new root (Bytes text) × (length text ≤ FILE_LIMIT) → WritesText text before after result → WritesTree root old new before after result
 writes_text root old new before after text (Ok x) zig adds w =
     record { files = pair_of root (Bytes text); out = w.0; loads = adds.0; writes = w.1; ends = due_module root text w.0 zig adds.1 w.2 }
 writes_text root old new before after text (Err (build.Stop stop)) zig adds w =
-    record { files = pair_of root (Bytes text); out = w.0; loads = adds.0; writes = w.1; ends = (w.2.0, unbuilt_named stop w.2.1, due_unbuilt root text stop zig adds.1 w.2.1 w.2.2) }
+    record { files = pair_of root (Bytes text); out = w.0; loads = adds.0; writes = w.1; ends = (w.2.0, stop_named text stop w.2.1, due_stopped root text stop zig adds.1 w.2.1) }
 writes_text root old new before after text (Err build.TreeFault) zig adds w = absurd w.2
 writes_text root old new before after text (Err build.OutFault) zig adds w =
     record { files = pair_of root (Bytes text); out = w.0; loads = adds.0; writes = w.1; ends = (w.2.0, due_module root text w.2.0 zig adds.1 w.2.1, w.2.2) }

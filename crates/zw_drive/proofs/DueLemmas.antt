@@ -4,35 +4,39 @@ use Rattle.std.specs.List.{ends_with}
 use Rattle.zw_base.specs.declared.files.Answer.{Answer}
 use Rattle.zw_base.specs.declared.files.Answer.TheVariants.{Bytes, Absent, TooLong}
 use Rattle.zw_base.specs.declared.files.Handed.{Handed}
-use Rattle.zw_base.specs.declared.stop.StopKind.{StopKind}
+use Rattle.zw_base.specs.declared.stop.Stop.{Stop}
 use Rattle.zw_drive.specs.Commands.{CommandLine, Build, command_of}
-use Rattle.zw_drive.specs.Due.{IsStop, IsModule, IsAnswerDue, IsRootDue, IsCommandDue, IsDue}
-use Rattle.zw_drive.specs.Meaning.{Builds, IsUnbuilt}
-use Rattle.zw_drive.specs.declared.stops.TheConstants.{IMPORT_PATH, FILE_ABSENT, FILE_LENGTH, NOT_BUILT}
+use Rattle.zw_drive.specs.Due.{IsStop, IsStopDue, IsModule, IsAnswerDue, IsRootDue, IsCommandDue, IsDue}
+use Rattle.zw_drive.specs.Lines.{stop_line}
+use Rattle.zw_drive.specs.Meaning.{Builds}
+use Rattle.zw_drive.specs.Stops.{at_start}
+use Rattle.zw_drive.specs.declared.stops.TheConstants.{IMPORT_PATH, FILE_ABSENT, FILE_LENGTH}
+use Rattle.zw_form.proofs.FormLemmas.{one_stop_of, stop_or_form}
 
 -- the same status and the same line
 abbrev pub IsSame : ℕ → ℕ → List ℕ → List ℕ → Type 0
 IsSame status status' line line' = (status ≡ status') × (line ≡ line')
 
-one_stop : (root : List ℕ) (kind : StopKind) (s t : ℕ) (out out' line line' : List ℕ) → IsStop root kind s out line → IsStop root kind t out' line' → IsSame s t line line'
-one_stop root kind s t out out' line line' h k = (h.status_is ∙ sym k.status_is, h.line_is ∙ sym k.line_is)
+one_stop : (root : List ℕ) (stop : Stop) (s t : ℕ) (out out' line line' : List ℕ) → IsStop root stop s out line → IsStop root stop t out' line' → IsSame s t line line'
+one_stop root stop s t out out' line line' h k = (h.status_is ∙ sym k.status_is, h.line_is ∙ sym k.line_is)
 
 one_module : (s t : ℕ) (line line' : List ℕ) → IsModule s line → IsModule t line' → IsSame s t line line'
 one_module s t line line' h k = (h.status_is ∙ sym k.status_is, h.line_is ∙ sym k.line_is)
 
--- a text that is built, or isn't
+-- a text that is built, or stops
 abbrev pub IsChosen : List ℕ → List ℕ → ℕ → List ℕ → List ℕ → Type 0
-IsChosen root text status out line = (Builds text out × IsModule status line) ⊎ (IsUnbuilt text × IsStop root NOT_BUILT status out line)
+IsChosen root text status out line = (Builds text out × IsModule status line) ⊎ IsStopDue root text status out line
 
 one_text : (root text : List ℕ) (s t : ℕ) (out out' line line' : List ℕ) → IsChosen root text s out line → IsChosen root text t out' line' → IsSame s t line line'
 one_text root text s t out out' line line' (inl h) (inl k) = one_module s t line line' h.1 k.1
-one_text root text s t out out' line line' (inl h) (inr k) = absurd (k.0 h.0.means.trees h.0.means.form)
-one_text root text s t out out' line line' (inr h) (inl k) = absurd (h.0 k.0.means.trees k.0.means.form)
-one_text root text s t out out' line line' (inr h) (inr k) = one_stop root NOT_BUILT s t out out' line line' h.1 k.1
+one_text root text s t out out' line line' (inl h) (inr k) = absurd (stop_or_form text k.0 h.0.means.trees k.1 h.0.means.form)
+one_text root text s t out out' line line' (inr h) (inl k) = absurd (stop_or_form text h.0 k.0.means.trees h.1 k.0.means.form)
+one_text root text s t out out' line line' (inr h) (inr k) =
+    one_stop root h.0 s t out out' line line' h.2 (subst (λ (stop : Stop). IsStop root stop t out' line') (one_stop_of text k.0 h.0 k.1 h.1) k.2)
 
 one_answer : (root : List ℕ) (answer : Answer) (s t : ℕ) (out out' line line' : List ℕ) → IsAnswerDue root answer s out line → IsAnswerDue root answer t out' line' → IsSame s t line line'
-one_answer root Absent s t out out' line line' h k = one_stop root FILE_ABSENT s t out out' line line' h k
-one_answer root TooLong s t out out' line line' h k = one_stop root FILE_LENGTH s t out out' line line' h k
+one_answer root Absent s t out out' line line' h k = one_stop root (at_start FILE_ABSENT) s t out out' line line' h k
+one_answer root TooLong s t out out' line line' h k = one_stop root (at_start FILE_LENGTH) s t out out' line line' h k
 one_answer root (Bytes text) s t out out' line line' h k = one_text root text s t out out' line line' h.due k.due
 
 first_answer : List Handed → Answer → Answer
@@ -48,9 +52,9 @@ one_root : (root : List ℕ) (files : List Handed) (s t : ℕ) (out out' line li
 one_root root files s t out out' line line' h k =
     one_answer root h.0 s t out out' line line' h.2 (subst (λ (a : Answer). IsAnswerDue root a t out' line') (same_answer root files h.0 k.0 h.1 k.1) k.2)
 
-one_build : (b : Bool) (root : List ℕ) (files : List Handed) (s t : ℕ) (out out' line line' : List ℕ) → MatchBool b (IsRootDue root files s out line) ((files ≡ []) × IsStop root IMPORT_PATH s out line) → MatchBool b (IsRootDue root files t out' line') ((files ≡ []) × IsStop root IMPORT_PATH t out' line') → IsSame s t line line'
+one_build : (b : Bool) (root : List ℕ) (files : List Handed) (s t : ℕ) (out out' line line' : List ℕ) → MatchBool b (IsRootDue root files s out line) ((files ≡ []) × IsStop root (at_start IMPORT_PATH) s out line) → MatchBool b (IsRootDue root files t out' line') ((files ≡ []) × IsStop root (at_start IMPORT_PATH) t out' line') → IsSame s t line line'
 one_build true root files s t out out' line line' h k = one_root root files s t out out' line line' h k
-one_build false root files s t out out' line line' h k = one_stop root IMPORT_PATH s t out out' line line' h.1 k.1
+one_build false root files s t out out' line line' h k = one_stop root (at_start IMPORT_PATH) s t out out' line line' h.1 k.1
 
 one_command : (asked : Option CommandLine) (files : List Handed) (s t : ℕ) (out out' line line' : List ℕ) → IsCommandDue asked files s out line → IsCommandDue asked files t out' line' → IsSame s t line line'
 one_command None files s t out out' line line' h k = (h.status_is ∙ sym k.status_is, h.line_is ∙ sym k.line_is)

@@ -7,34 +7,39 @@ use Rattle.zw_base.specs.Faults.{Rose}
 use Rattle.zw_base.specs.declared.files.Answer.{Answer}
 use Rattle.zw_base.specs.declared.files.Answer.TheVariants.{Bytes, Absent, TooLong}
 use Rattle.zw_base.specs.declared.files.Handed.{Handed}
-use Rattle.zw_base.specs.declared.stop.StopKind.{StopKind}
+use Rattle.zw_base.specs.declared.stop.Stop.{Stop}
 use Rattle.zw_drive.specs.Commands.{CommandLine, Build, command_of}
 use Rattle.zw_drive.specs.Lines.{usage_line, tree_fault_line, out_fault_line, stop_line}
-use Rattle.zw_drive.specs.Meaning.{Builds, IsUnbuilt}
+use Rattle.zw_drive.specs.Meaning.{Builds}
 use Rattle.zw_drive.specs.Stops.{at_start}
-use Rattle.zw_drive.specs.declared.stops.TheConstants.{IMPORT_PATH, FILE_ABSENT, FILE_LENGTH, NOT_BUILT}
+use Rattle.zw_drive.specs.declared.stops.TheConstants.{IMPORT_PATH, FILE_ABSENT, FILE_LENGTH}
 use Rattle.zw_drive.specs.declared.build.TheConstants.{FILE_LIMIT}
+use Rattle.zw_form.specs.Form.{IsStopOf}
 
--- the root's stop is due: status 1, its line, and nothing to the output
-pub record IsStop (root : List ℕ) (kind : StopKind) (status : ℕ) (out line : List ℕ) : Type 0 where
+-- a stop in the root is due: status 1, its line, and nothing to the output
+pub record IsStop (root : List ℕ) (stop : Stop) (status : ℕ) (out line : List ℕ) : Type 0 where
   pub status_is : status ≡ 1
   pub out_is : out ≡ []
-  pub line_is : line ≡ stop_line root (at_start kind)
+  pub line_is : line ≡ stop_line root stop
 
 -- a module is due: status 0, its bytes, and no line
 pub record IsModule (status : ℕ) (line : List ℕ) : Type 0 where
   pub status_is : status ≡ 0
   pub line_is : line ≡ []
 
+-- a text's stop is due
+abbrev pub IsStopDue : List ℕ → List ℕ → ℕ → List ℕ → List ℕ → Type 0
+IsStopDue root text status out line = (stop : Stop) × IsStopOf text stop × IsStop root stop status out line
+
 -- what is due for a text, which is no longer than a file may be
 pub record IsTextDue (root text : List ℕ) (status : ℕ) (out line : List ℕ) : Type 0 where
   pub fits : length text ≤ FILE_LIMIT
-  pub due : (Builds text out × IsModule status line) ⊎ (IsUnbuilt text × IsStop root NOT_BUILT status out line)
+  pub due : (Builds text out × IsModule status line) ⊎ IsStopDue root text status out line
 
 -- what is due for an answer to the load of the root
 abbrev pub IsAnswerDue : List ℕ → Answer → ℕ → List ℕ → List ℕ → Type 0
-IsAnswerDue root Absent status out line = IsStop root FILE_ABSENT status out line
-IsAnswerDue root TooLong status out line = IsStop root FILE_LENGTH status out line
+IsAnswerDue root Absent status out line = IsStop root (at_start FILE_ABSENT) status out line
+IsAnswerDue root TooLong status out line = IsStop root (at_start FILE_LENGTH) status out line
 IsAnswerDue root (Bytes text) status out line = IsTextDue root text status out line
 
 -- the tree handed over the root and nothing else
@@ -45,7 +50,7 @@ IsRootDue root files status out line =
 -- what is due for `build ROOT`: nothing is loaded where the root doesn't end with `.zig`
 abbrev pub IsBuildDue : List ℕ → List Handed → ℕ → List ℕ → List ℕ → Type 0
 IsBuildDue root files status out line =
-    MatchBool (ends_with nat_eq root (codes ".zig")) (IsRootDue root files status out line) ((files ≡ []) × IsStop root IMPORT_PATH status out line)
+    MatchBool (ends_with nat_eq root (codes ".zig")) (IsRootDue root files status out line) ((files ≡ []) × IsStop root (at_start IMPORT_PATH) status out line)
 
 -- the words are no command: status 2, the line of the usage, and nothing is loaded or written
 pub record IsUsage (files : List Handed) (status : ℕ) (out line : List ℕ) : Type 0 where

@@ -10,14 +10,13 @@ use Rattle.zw_base.specs.declared.stop.Refused.TheVariants as refused
 use Rattle.zw_drive.specs.Commands.{Build}
 use Rattle.zw_drive.specs.Due.{IsAnswerDue, IsBuildDue, IsLoadDue, IsFront}
 use Rattle.zw_drive.specs.Lines.{IsNamed, stop_line, tree_fault_line, out_fault_line}
-use Rattle.zw_drive.specs.Meaning.{Means, Builds, IsUnbuilt}
-use Rattle.zw_drive.specs.Stops.{at_start}
+use Rattle.zw_drive.specs.Meaning.{Means, Builds}
 use Rattle.zw_drive.specs.declared.build.TheConstants.{FILE_LIMIT}
 use Rattle.zw_drive.specs.declared.build.BuildErr.{BuildErr}
 use Rattle.zw_drive.specs.declared.build.BuildErr.TheVariants as build
 use Rattle.zw_drive.specs.declared.status.Status.{Status}
 use Rattle.zw_drive.specs.declared.status.Status.TheVariants as statuses
-use Rattle.zw_drive.specs.declared.stops.TheConstants.{NOT_BUILT}
+use Rattle.zw_form.specs.Form.{IsStopOf}
 use Rattle.zw_wasm.specs.WellFormed.{IsWellFormed}
 use Rattle.zw_wasm.specs.declared.module.Module.{Module}
 
@@ -25,10 +24,10 @@ use Rattle.zw_wasm.specs.declared.module.Module.{Module}
 abbrev pub IsCompiled : List ℕ → Module → Type 0
 IsCompiled text m = Means text m × IsWellFormed m
 
--- a text is compiled to such a module, or isn't of the form
+-- a text is compiled to such a module, or has a stop
 abbrev pub Compiles : List ℕ → Result Module Refused → Type 0
 Compiles text (Ok m) = IsCompiled text m
-Compiles text (Err (refused.Stop stop)) = (stop ≡ at_start NOT_BUILT) × IsUnbuilt text
+Compiles text (Err (refused.Stop stop)) = IsStopOf text stop
 Compiles text (Err refused.Oom) = Unit {0}
 
 abbrev pub tree_failed : {T : Type 0} → Result T BuildErr → Bool
@@ -60,7 +59,7 @@ LoadEnds root old new (Err build.Oom) = new ≡ old
 -- how building a text ends, with these bytes taken by the output
 abbrev pub TextEnds : List ℕ → List ℕ → Result (Unit {0}) BuildErr → Type 0
 TextEnds text out (Ok x) = Builds text out
-TextEnds text out (Err (build.Stop stop)) = (out ≡ []) × (stop ≡ at_start NOT_BUILT) × IsUnbuilt text
+TextEnds text out (Err (build.Stop stop)) = (out ≡ []) × IsStopOf text stop
 TextEnds text out (Err build.TreeFault) = ⊥
 TextEnds text out (Err build.OutFault) = (due : List ℕ) × Builds text due × IsFront out due
 TextEnds text out (Err build.Oom) = (out ≡ []) ⊎ ((due : List ℕ) × Builds text due × IsFront out due)

@@ -17,7 +17,3 @@ pub record Builds (text out : List ℕ) : Type 0 where
   pub built : Module
   pub means : Means text built
   pub spelled : ModuleBytes built out
-
--- the text isn't of the form that is built yet
-abbrev pub IsUnbuilt : List ℕ → Type 0
-IsUnbuilt text = (trees : List Tree) → HasForm text trees → ⊥

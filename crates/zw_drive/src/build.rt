@@ -1,5 +1,5 @@
 // The command that builds a tree of files and writes the module.
-ghost use Rattle.std.specs.Prelude.{◌≡◌};
+ghost use Rattle.std.specs.Prelude.{◌≡◌, ◌≤◌, length};
 ghost use Rattle.zw_base.specs.Faults.{Counts};
 ghost use Rattle.zw_drive.specs.Ends.{LoadEnds, WritesText, WritesTree, tree_failed, out_failed};
 
@@ -62,6 +62,7 @@ fn load<T: Tree>(alloc: Global, root: &Word, tree: &mut T) -> Result<Vec<u8>, Bu
 
 /// Builds a text and writes its module to `out`.
 fn build_text<O: Sink>(alloc: Global, text: &[u8], out: &mut O) -> Result<(), BuildErr>
+    requires { length text.now ≤ FILE_LIMIT }
     ensures ends { WritesText text.now (O.taken out.old) (O.taken out.new) result }
     ensures cause { Counts (O.faults out.old) (O.faults out.new) (out_failed result) }
 {

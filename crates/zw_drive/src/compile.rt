@@ -1,4 +1,5 @@
 // From a text to a module.
+ghost use Rattle.std.specs.Prelude.{◌≤◌, length};
 ghost use Rattle.zw_drive.specs.Ends.{Compiles};
 
 use std::alloc::Global;
@@ -7,8 +8,10 @@ use zw_form::read_form;
 use zw_lower::lower;
 use zw_wasm::Module;
 
-/// The module of a text. A text that isn't of the form that is built yet is a stop at its first byte.
+/// The module of a text of at most 4,194,304 bytes. A text without tokens is a stop at the place where it has none (errors 3, 4,
+/// 5 and 7), and another one that isn't of the form that is built yet is a stop at its first byte (error 36).
 pub fn compile(alloc: Global, text: &[u8]) -> Result<Module, Refused>
+    requires { length text.now ≤ 4194304 }
     ensures { Compiles text.now result }
 {
     match read_form(alloc, text) {

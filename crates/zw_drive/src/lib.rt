@@ -13,6 +13,3 @@ mod stops;
 
 pub use drive::zig;
 pub use laws::{one_due, sessions_are_of_fitting_calls, sessions_stay_ended};
-
-#[cfg(test)]
-mod tests;

@@ -1,4 +1,4 @@
-// The stops that a tree of files may have by now, each at the first byte of the root.
+// The stops of the root that its text doesn't tell, each at its first byte.
 ghost use Rattle.std.specs.Prelude.{◌≡◌};
 ghost use Rattle.zw_drive.specs.Stops.{at_start};
 
@@ -9,9 +9,6 @@ pub const FILE_ABSENT: StopKind = StopKind::Error(1);
 
 /// The root's name doesn't end with `.zig`.
 pub const IMPORT_PATH: StopKind = StopKind::Error(2);
-
-/// The text isn't of the form that is built yet.
-pub const NOT_BUILT: StopKind = StopKind::Error(36);
 
 /// The file is too long.
 pub const FILE_LENGTH: StopKind = StopKind::Limit(1);

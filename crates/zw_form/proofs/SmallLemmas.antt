@@ -10,8 +10,9 @@ use Rattle.zw_token.specs.declared.token.Token.{Token}
 use Rattle.zw_token.specs.declared.token.TokenKind.{TokenKind}
 use Rattle.zw_token.specs.declared.token.TokenKind.TheVariants.{Name, End}
 use Rattle.zw_token.specs.Bytes.{is_name_start, is_name_byte}
-use Rattle.zw_token.specs.Tokens.{TokensFrom, last, more, StandsIn, IsWord, IsOfKind, start_of}
+use Rattle.zw_token.specs.Tokens.{TokensFrom, last, more, StandsIn, BeginsToken, IsWord, start_of}
 use Rattle.zw_token.proofs.Lists.{gap_ordered, stands_size}
+use Rattle.zw_token.proofs.KindLemmas.{name_word}
 use Rattle.zw_form.proofs.NumberLemmas.{numbers_fit_in}
 use Rattle.zw_form.specs.Form.{HasForm, IsSmall}
 use Rattle.zw_form.specs.Grammar.{Word, AreDeclarations, bytes_of}
@@ -71,8 +72,9 @@ token_ascii : (text : List ℕ) (t : Token) → StandsIn text t → t.kind ≡ N
 token_ascii text t stands named =
     let n = stands.0 in
     let size : t.end - t.start ≡ n = omega (arith, stands.1) in
-    let word = subst (λ k. IsOfKind k (take n (drop t.start text))) named stands.2.of_kind in
-    subst (λ k. IsAscii (take k (drop t.start text))) (sym size) (word_ascii (take n (drop t.start text)) word.0)
+    let begins = subst (λ k. BeginsToken (drop t.start text) k n) named stands.2 in
+    let word = name_word (drop t.start text) n begins.is_front in
+    subst (λ k. IsAscii (take k (drop t.start text))) (sym size) (word_ascii (take n (drop t.start text)) word)
 
 module _ {text : List ℕ} {all : List Token} (tokens : TokensFrom text (start_of text) all) where
   IsAscii-name : (name : List ℕ) (ts us : List Token) → IsEndOf all ts → Word text name ts us → IsAscii name
@@ -106,7 +108,7 @@ module _ {text : List ℕ} {all : List Token} (tokens : TokensFrom text (start_o
 
 pub HasForm-small : (text : List ℕ) (trees : List Tree) → HasForm text trees → IsSmall trees
 HasForm-small text trees form = record {
-  names_are_ascii = names_are_ascii form.has_tokens trees form.tokens (IsEndOf-itself form.tokens) form.syntax;
-  params_are_few = params_are_few form.has_tokens form.fits trees form.tokens (IsEndOf-itself form.tokens) form.syntax;
+  names_are_ascii = names_are_ascii form.has_tokens.list trees form.tokens (IsEndOf-itself form.tokens) form.syntax;
+  params_are_few = params_are_few form.has_tokens.list form.fits trees form.tokens (IsEndOf-itself form.tokens) form.syntax;
   numbers_fit = numbers_fit_in text trees form.tokens form.syntax;
 }

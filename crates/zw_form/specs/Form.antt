@@ -1,11 +1,12 @@
 -- The form of a file that is built by now: extern functions, and exported functions whose result is a sum.
-use Rattle.std.specs.Prelude.{◌≡◌, ℕ, ◌<◌, ◌≤◌, ◌^◌, List, length, map, All}
+use Rattle.std.specs.Prelude.{◌≡◌, ◌⊎◌, ℕ, ◌<◌, ◌≤◌, ◌^◌, List, length, map, All}
 use Rattle.std.specs.Str.{IsAscii}
 use Rattle.zw_base.specs.declared.stop.Refused.{Refused}
 use Rattle.zw_base.specs.declared.stop.Refused.TheVariants as refused
 use Rattle.zw_base.specs.declared.stop.Stop.{Stop}
 use Rattle.zw_base.specs.declared.stop.StopKind.TheVariants.{Error}
-use Rattle.zw_token.specs.Tokens.{Tokens}
+use Rattle.zw_token.specs.Tokens.{Tokens, TextStop, stop_at}
+use Rattle.zw_token.specs.declared.token.TextError.{TextError}
 use Rattle.zw_token.specs.declared.token.Token.{Token}
 use Rattle.zw_form.specs.Grammar.{AreDeclarations}
 use Rattle.zw_form.specs.Programs.{program_of}
@@ -32,9 +33,24 @@ not_built = record { kind = Error 36; place = record { file = 0; line = 1; colum
 abbrev pub IsProgramOf : List ℕ → Program → Type 0
 IsProgramOf text p = (trees : List Tree) × HasForm text trees × (p ≡ program_of (map declaration_of trees))
 
--- why a text isn't read: it isn't of the form, or memory ran out
+-- a stop of the text as such: it has no tokens
+abbrev pub IsTextStop : List ℕ → Stop → Type 0
+IsTextStop text stop = (at : ℕ) × (error : TextError) × TextStop text at error × (stop ≡ stop_at 0 text at error)
+
+-- a text with tokens that isn't of the form, which is told where the file begins
+pub record IsUnbuilt (text : List ℕ) (stop : Stop) : Type 0 where
+  pub tokens : List Token
+  pub has_tokens : Tokens text tokens
+  pub no_form : (trees : List Tree) → ¬ HasForm text trees
+  pub is_not_built : stop ≡ not_built
+
+-- the stop of a text: where it has no tokens its own, and else where it isn't of the form
+abbrev pub IsStopOf : List ℕ → Stop → Type 0
+IsStopOf text stop = IsTextStop text stop ⊎ IsUnbuilt text stop
+
+-- why a text isn't read: it has a stop, or memory ran out
 abbrev pub IsRefusal : List ℕ → Refused → Type 0
-IsRefusal text (refused.Stop stop) = (stop ≡ not_built) × ((trees : List Tree) → ¬ HasForm text trees)
+IsRefusal text (refused.Stop stop) = IsStopOf text stop
 IsRefusal text refused.Oom = Unit {0}
 
 -- a number is one of 32 bits

@@ -17,6 +17,3 @@ pub use program::{Action, Function, Import, Program};
 pub use read::{TEXT_LIMIT, read_form};
 pub use source::{Callee, Declaration, ExportedFunction, ExternFunction, Operator, Step};
 pub use syntax::{MAX_CALLS_NESTED, one_reading, read_declarations};
-
-#[cfg(test)]
-mod tests;

@@ -1,5 +1,5 @@
 // The reader of a text of the form, from its bytes to its program.
-ghost use Rattle.std.specs.Prelude.{◌≡◌, IfOk, IfErr};
+ghost use Rattle.std.specs.Prelude.{◌≡◌, ◌≤◌, length, IfOk, IfErr};
 ghost use Rattle.zw_form.specs.Form.{IsProgramOf, IsRefusal, not_built};
 
 use crate::Program;
@@ -15,19 +15,17 @@ pub const TEXT_LIMIT: usize = 65_536;
 /// The number of the error that says that a form isn't built yet.
 const NOT_BUILT: u16 = 36;
 
-/// The program of a text of the form. Every other text is a stop at its first byte (error 36).
+/// The program of a text of the form, which has at most 4,194,304 bytes. A text without tokens is its own stop (errors 3, 4, 5
+/// and 7), and every other text is a stop at its first byte (error 36).
 pub fn read_form(alloc: Global, text: &[u8]) -> Result<Program, Refused>
+    requires { length text.now ≤ 4194304 }
     ensures program { IfOk result (IsProgramOf text.now) }
     ensures refused { IfErr result (IsRefusal text.now) }
 {
+    let tokens = tokens(alloc, 0, text)?;
     if text.len() > TEXT_LIMIT {
         return Err(not_built());
     }
-    let tokens = match tokens(alloc, 0, text) {
-        Ok(tokens) => tokens,
-        Err(Refused::Stop(_)) => return Err(not_built()),
-        Err(Refused::Oom) => return Err(Refused::Oom),
-    };
     let Some(file) = read_declarations(alloc, text, &tokens)? else {
         return Err(not_built());
     };

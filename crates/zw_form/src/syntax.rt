@@ -159,6 +159,3 @@ pub fn one_reading()
     ensures { (text : List ℕ) (a b : List Tree) (tokens : List Token)
         → AreDeclarations text a tokens → AreDeclarations text b tokens → a ≡ b }
 {}
-
-#[cfg(test)]
-mod tests;

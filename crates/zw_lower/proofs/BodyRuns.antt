@@ -1,5 +1,5 @@
 -- The code of a sum, a term, arguments and statements comes out as evaluating them does.
-use Rattle.std.proofs.Common.{◌≡◌, ℕ, ◌<◌, ◌^◌, true, false, List, [], ◌∷◌, ◌++◌, refl, sym, ap, ◌∙◌, subst, append_assoc, All, Contains}
+use Rattle.std.proofs.Common.{◌≡◌, ℕ, ◌<◌, ◌^◌, true, false, List, [], ◌∷◌, ◌++◌, refl, sym, ap, ◌∙◌, append_assoc, All, Contains}
 use Rattle.std.proofs.lemmas.List.{reverse-append}
 use Rattle.std.proofs.lemmas.List.Elements.{All-head}
 use Rattle.std.specs.List.{flat_map}
@@ -11,8 +11,8 @@ use Rattle.zw_form.specs.Trees as terms
 use Rattle.zw_form.specs.declared.source.ExternFunction.{ExternFunction}
 use Rattle.zw_form.specs.declared.source.Step.{Step}
 use Rattle.zw_form.specs.declared.source.Step.TheVariants as step
-use Rattle.zw_lower.proofs.BodySmall.{AreArgs, IsSmall, IsAny, gives-any, ReadsSmall, operator-small, term-small, sum-small, args-small, body-small}
-use Rattle.zw_lower.proofs.ComesCompose.{gone_on, IfGives, comes-then}
+use Rattle.zw_lower.proofs.BodySmall.{AreArgs, IsSmall, IsAny, gives-any, ReadsSmall, operator-small, term-small, sum-small, args-small}
+use Rattle.zw_lower.proofs.ComesCompose.{gone_on, comes-then}
 use Rattle.zw_lower.proofs.Running.{Comes, Imports, Placed, one_number, numbers_reversed, steps_code, words}
 use Rattle.zw_lower.proofs.ListLemmas.{All-right}
 use Rattle.zw_lower.proofs.StepsReady.{Ready, ready-left, ready-right, ready-args, ready-on}
@@ -141,8 +141,3 @@ body-comes m v externs imports params values b c os rest h =
 pub body_comes : (m : Module) (v : View) (externs : List ExternFunction) (imports params : List (List ℕ)) (values : List ℕ → ℕ) (b : Body) (c : Config) (os : List Num) (rest : List Instr) → Imports m v externs imports → All (IsKnown externs params) (body_steps b) → All FitsStep (body_steps b) → All (Contains imports) (body_callees b) → Placed imports params values (body_steps b) c → let r = body_value values b c.world.replies in Comes m v params one_number r.events r.end (placed (code_of (steps_code imports params (body_steps b) ++ rest)) os c) (code_of rest) os
 body_comes m v externs imports params values b c os rest imported known fits names at =
     body-comes m v externs imports params values b c os rest (record { imported = imported; known = known; fits = fits; called = names; at = at })
-
--- what it returns is of 32 bits
-pub body_small : (externs : List ExternFunction) (params : List (List ℕ)) (values : List ℕ → ℕ) (b : Body) (replies : List ℕ) (n : ℕ) (left : List ℕ) → ((name : List ℕ) → Contains params name → values name < 2 ^ 32) → All (IsKnown externs params) (body_steps b) → All FitsStep (body_steps b) → (body_value values b replies).end ≡ Gives n left → n < 2 ^ 32
-body_small externs params values b replies n left small known fits e =
-    subst (IfGives IsSmall) e (body-small externs params values b replies (record { params_are = small; known = known; fits = fits }))

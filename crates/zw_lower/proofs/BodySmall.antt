@@ -3,10 +3,9 @@ use Rattle.std.proofs.Common.{◌≡◌, ℕ, ◌+◌, ◌-◌, ◌<◌, ◌^◌
 use Rattle.std.proofs.lemmas.Bool.{ltb-true}
 use Rattle.std.proofs.lemmas.List.Elements.{All-nil, All-cons, All-head}
 use Rattle.std.specs.Prelude.{nat_lt, nat_le, if◌then◌else◌}
-use Rattle.std.specs.List.{flat_map}
 use Rattle.zw_form.specs.Form.{FitsStep}
 use Rattle.zw_form.specs.Rules.{IsKnown}
-use Rattle.zw_form.specs.Source.{Answer, Gives, Stops, operator_value, or_overflow, event_of, asked, gives, and_then, sum_value, operations_value, term_value, args_value, statements_done, body_value}
+use Rattle.zw_form.specs.Source.{Answer, Gives, Stops, operator_value, or_overflow, event_of, asked, gives, and_then, sum_value, operations_value, term_value, args_value}
 use Rattle.zw_form.specs.Trees.{Sum, Terms, Operations, NoMore, Then, Term, Parameter, Result, Sums, NoSum, More, Body, count_of, sum_steps, operation_steps, term_steps, args_steps, statement_steps, body_steps}
 use Rattle.zw_form.specs.Trees as terms
 use Rattle.zw_form.specs.declared.source.ExternFunction.{ExternFunction}
@@ -110,9 +109,3 @@ args-small externs params values (More sum others) replies h =
     if_gives-then (AreArgs (count_of others)) (AreArgs (count_of others + 1)) a.events a.end (λ numbers more. gives (n ∷ numbers) more)
     (args-small externs params values others left (reads-right (sum_steps sum) (args_steps others) h))
     (λ numbers more are. args-more (count_of others) n numbers n_is are))
-
-pub body-small : (externs : List ExternFunction) (params : List (List ℕ)) (values : List ℕ → ℕ) (b : Body) (replies : List ℕ) → ReadsSmall externs params values (body_steps b) → IfGives IsSmall (body_value values b replies).end
-body-small externs params values b replies h =
-    let r = statements_done values b.statements replies in
-    if_gives-then IsAny IsSmall r.events r.end (λ done left. sum_value values b.sum left) (gives-any r.end)
-    (λ done left any. sum-small externs params values b.sum left (reads-right (flat_map statement_steps b.statements) (sum_steps b.sum) h))

@@ -34,7 +34,7 @@ use Rattle.zw_wasm.specs.Validity.{expanded, check_body}
 
 -- what the code of a function stands in
 abbrev context_of : Module → List (List ℕ) → List Action → Context
-context_of m params actions = record { module_ = m; locals = replicate (length params) I32 ++ expanded (locals_of actions) }
+context_of m params actions = record { module_ = m; locals = replicate (length params) I32 ++ expanded (locals_of actions); returns = I32 ∷ [] }
 
 -- ---- locals
 

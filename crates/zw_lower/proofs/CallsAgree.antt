@@ -1,8 +1,7 @@
 -- The module of a file does what the file means: call by call, and so session by session.
-use Rattle.std.proofs.Common.{◌≡◌, ℕ, ◌+◌, ◌<◌, ◌^◌, pos, true, List, [], ◌∷◌, ◌++◌, length, map, Option, Some, None, is_some, codes, refl, sym, ap, ◌∙◌, subst, arith}
+use Rattle.std.proofs.Common.{◌≡◌, ℕ, ◌+◌, pos, true, List, [], ◌∷◌, ◌++◌, length, map, Option, Some, None, is_some, codes, refl, sym, ap, ◌∙◌, subst, arith}
 use Rattle.std.specs.Prelude.{slice_get}
 use Rattle.std.specs.List.{flat_map}
-use Rattle.std.proofs.Math.Nat.{mod-eq_of_lt}
 use Rattle.std.proofs.lemmas.Bool.{and_from}
 use Rattle.std.proofs.lemmas.List.Folds.{flat_map-map}
 use Rattle.zw_form.specs.Form.{IsSmall}
@@ -12,8 +11,8 @@ use Rattle.zw_form.specs.Source.{Answer, Gives, Stops, Exported, export_named, b
 use Rattle.zw_form.specs.Trees.{Tree, body_steps, declaration_of}
 use Rattle.zw_lower.specs.Modules.{action_code, body_of}
 use Rattle.zw_lower.specs.Views.{signature_of, view_of}
-use Rattle.zw_lower.proofs.BodyRuns.{body_comes, body_small}
-use Rattle.zw_lower.proofs.Entry.{Fitting, fitting, args_too, args_become, value_below, entry_placed}
+use Rattle.zw_lower.proofs.BodyRuns.{body_comes}
+use Rattle.zw_lower.proofs.Entry.{Fitting, fitting, args_too, args_become, entry_placed}
 use Rattle.zw_lower.proofs.ExportFacts.{in_steps, IsBuilt, is_built, cause_exported, pointer_exported, count_exported}
 use Rattle.zw_lower.proofs.FileImports.{file_module, imports_hold}
 use Rattle.zw_lower.proofs.Running.{steps_code, after_calls, GoesOn, HaltsSo, PanicsSo, Comes, one_number}
@@ -30,7 +29,7 @@ use Rattle.zw_wasm.specs.declared.num.Num.TheVariants.{I32}
 use Rattle.zw_wasm.specs.Functions.{func_type}
 use Rattle.zw_wasm.specs.ModuleMachine.{first_store, module_machine, call_fits, call_of, signature_fits, arg_nums, param_types, global_at, exported_global, i32_of, panic_of, trap_halt, result_reading}
 use Rattle.zw_wasm.specs.ModuleMachine.{value_of as value_shown}
-use Rattle.zw_wasm.specs.Reduction.{Config, World, Store, Trap, NoReply, unreachable_trap}
+use Rattle.zw_wasm.specs.Reduction.{Config, World, Store, Trap, NoReply, arity_of, unreachable_trap}
 use Rattle.zw_wasm.specs.Sequences.{placed}
 use Rattle.zw_wasm.specs.Structure.{Ends, code_of}
 
@@ -74,7 +73,7 @@ module _ (trees : List Tree) (call : Call) (f : Exported) (built : IsBuilt trees
   machine_code = body_of (function_of (called_in (map declaration_of trees)) (in_steps call.name f))
 
   abbrev entry : Config
-  entry = entry_of built.number machine_code (arg_nums (param_types (func_type (file_module trees) built.number)) call.args) (world_before store replies)
+  entry = entry_of built.number (arity_of (func_type (file_module trees) built.number)) machine_code (arg_nums (param_types (func_type (file_module trees) built.number)) call.args) (world_before store replies)
 
   abbrev machine_call : ℕ → Outcome Store
   machine_call = call_of (file_module trees) (view_of trees (file_module trees)) store call replies
@@ -85,8 +84,8 @@ module _ (trees : List Tree) (call : Call) (f : Exported) (built : IsBuilt trees
   abbrev return_of : List HostEvent → List ℕ → ℕ → Option Scalar → Outcome Store
   return_of events left k value = record { events = events; end = Returned value store left k }
 
-  returns_so : (n value : ℕ) (events : List HostEvent) (left : List ℕ) → HoldsState store → export_named trees call.name ≡ Some f → value < 2 ^ 32 → GoesOn (file_module trees) (view_of trees (file_module trees)) f.params events left (one_number value) entry Ends [] → ReturnsToo Related machine_call n events (Some (Number (pos value))) tt left n
-  returns_so n value events left state named small g =
+  returns_so : (n value : ℕ) (events : List HostEvent) (left : List ℕ) → HoldsState store → export_named trees call.name ≡ Some f → GoesOn (file_module trees) (view_of trees (file_module trees)) f.params events left (one_number value) entry Ends [] → ReturnsToo Related machine_call n events (Some (Number (pos value))) tt left n
+  returns_so n value events left state named g =
       let w : World = after_calls events left (world_before store replies) in
       record {
         next = store;
@@ -94,8 +93,7 @@ module _ (trees : List Tree) (call : Call) (f : Exported) (built : IsBuilt trees
         used = g.taken;
         turns = omega arith;
         returns = λ k. call-returns (file_module trees) (view_of trees (file_module trees)) store call replies built.number machine_code g.taken g.locals (one_number value ++ []) w built.exported built.own built.body g.runs k
-            ∙ ap (λ o. return_of events left k (shown_by o (I32 value ∷ []))) named
-            ∙ ap (λ i. return_of events left k (Some (Number (pos i)))) (mod-eq_of_lt small);
+            ∙ ap (λ o. return_of events left k (shown_by o (I32 value ∷ []))) named;
       }
 
   panics_so : (cause : ℕ) (message : List ℕ) (events : List HostEvent) → HoldsState store → PanicsSo (file_module trees) (view_of trees (file_module trees)) events cause message entry → (j : ℕ) × (machine_call j ≡ record { events = events; end = Halted (Panicked cause message) })
@@ -118,13 +116,13 @@ module _ (trees : List Tree) (call : Call) (f : Exported) (built : IsBuilt trees
   )
 
   -- however the body comes out, so does the call
-  call_comes : (n : ℕ) (events : List HostEvent) (answer : Answer ℕ) → HoldsState store → export_named trees call.name ≡ Some f → ((value : ℕ) (left : List ℕ) → answer ≡ Gives value left → value < 2 ^ 32) → Comes (file_module trees) (view_of trees (file_module trees)) f.params one_number events answer entry Ends [] → CallAgrees Related machine_call n events (call_end answer n)
-  call_comes n events (Gives value left) state named small g = returns_so n value events left state named (small value left refl) g
-  call_comes n events (Stops (Panicked cause message)) state named small p = panics_so cause message events state p
-  call_comes n events (Stops WantsReply) state named small h = wants_so events h
-  call_comes n events (Stops Running) state named small h = absurd h
-  call_comes n events (Stops Wild) state named small h = absurd h
-  call_comes n events (Stops (Trapped code)) state named small h = absurd h
+  call_comes : (n : ℕ) (events : List HostEvent) (answer : Answer ℕ) → HoldsState store → export_named trees call.name ≡ Some f → Comes (file_module trees) (view_of trees (file_module trees)) f.params one_number events answer entry Ends [] → CallAgrees Related machine_call n events (call_end answer n)
+  call_comes n events (Gives value left) state named g = returns_so n value events left state named g
+  call_comes n events (Stops (Panicked cause message)) state named p = panics_so cause message events state p
+  call_comes n events (Stops WantsReply) state named h = wants_so events h
+  call_comes n events (Stops Running) state named h = absurd h
+  call_comes n events (Stops Wild) state named h = absurd h
+  call_comes n events (Stops (Trapped code)) state named h = absurd h
 
   -- the body comes out from its entry
   entry_comes : KeepsRules (map declaration_of trees) → HoldsState store → Fitting f call.args → Comes (file_module trees) (view_of trees (file_module trees)) f.params one_number (body_value (value_of f.params call.args) f.body replies).events (body_value (value_of f.params call.args) f.body replies).end entry Ends []
@@ -135,7 +133,7 @@ module _ (trees : List Tree) (call : Call) (f : Exported) (built : IsBuilt trees
       let values = value_of f.params call.args in
       let r = body_value values f.body replies in
       let become = ap (λ t. arg_nums (param_types t) call.args) built.typed ∙ args_become f call.args fit in
-      let placed_there = entry_placed imports call.name f built.number call.args (arg_nums (param_types (func_type (file_module trees) built.number)) call.args) store replies fit become (has_state store state) in
+      let placed_there = entry_placed imports call.name f built.number (arity_of (func_type (file_module trees) built.number)) call.args (arg_nums (param_types (func_type (file_module trees) built.number)) call.args) store replies fit become (has_state store state) in
       let same : steps_code imports f.params steps ≡ flat_map (action_code (length f.params)) (map (action_of imports f.params) steps) = sym (flat_map-map (action_code (length f.params)) (action_of imports f.params) steps) in
       subst (λ is. Comes (file_module trees) (view_of trees (file_module trees)) f.params one_number r.events r.end (placed (code_of (is ++ End ∷ [])) [] entry) Ends []) same
       (body_comes (file_module trees) (view_of trees (file_module trees)) (externs_of file) imports f.params values f.body entry [] (End ∷ []) (imports_hold trees rules) built.known built.fit built.imported placed_there)
@@ -150,7 +148,6 @@ call_agrees trees rules small store state call replies n (Some f) named fits =
     let values = value_of f.params call.args in
     let r = body_value values f.body replies in
     call_comes trees call f built store replies n r.events r.end state named
-    (λ value left e. body_small (externs_of (map declaration_of trees)) f.params values f.body replies value left (λ name h. value_below f.params call.args name fit.values) built.known built.fit e)
     (entry_comes trees call f built store replies rules state fit)
 
 -- what may be called of the file may be called of its module

@@ -114,9 +114,9 @@ scratch_there imports params steps locals same = λ k d h writes.
     omega (arith, same, eight, length-append locals (zeros (locals_of (map (action_of imports params) steps))))
 
 -- What a function's code stands on is there at its entry.
-pub entry_placed : (imports : List (List ℕ)) (name : List ℕ) (f : Exported) (number : ℕ) (args : List Scalar) (locals : List Num) (store : Store) (replies : List ℕ) → Fitting f args → locals ≡ arg_locals args → HasPanicState store →
-    Placed imports f.params (value_of f.params args) (body_steps f.body) (entry_of number (body_of (function_of imports (in_steps name f))) locals (world_before store replies))
-entry_placed imports name f number args locals store replies fit become state =
+pub entry_placed : (imports : List (List ℕ)) (name : List ℕ) (f : Exported) (number arity : ℕ) (args : List Scalar) (locals : List Num) (store : Store) (replies : List ℕ) → Fitting f args → locals ≡ arg_locals args → HasPanicState store →
+    Placed imports f.params (value_of f.params args) (body_steps f.body) (entry_of number arity (body_of (function_of imports (in_steps name f))) locals (world_before store replies))
+entry_placed imports name f number arity args locals store replies fit become state =
     let zs = zeros (locals_of (map (action_of imports f.params) (body_steps f.body))) in
     let count : length locals ≡ length f.params = ap length become ∙ length-map args (λ (a : Scalar). I32 (number_of a)) ∙ fit.count in
     let at : (param : List ℕ) → Contains f.params param → slice_get locals (number_in f.params param) ≡ Some (I32 (value_of f.params args param)) =

@@ -13,7 +13,6 @@ use Rattle.zw_form.specs.declared.source.ExportedFunction.{ExportedFunction}
 use Rattle.zw_form.specs.declared.source.ExternFunction.{ExternFunction}
 use Rattle.zw_lower.proofs.ListLemmas.{all-append, Contains-cases, Contains-head, Contains-tail}
 use Rattle.zw_lower.proofs.NameLemmas.{other_name, is_name, differ_too}
-use Rattle.zw_lower.specs.Right.{state_names}
 
 -- each name differs from all later ones
 abbrev pub Differ : List (List ℕ) → Type 0
@@ -77,6 +76,10 @@ exports_differ : (file : List Declaration) → Differ (map name_of file) → Dif
 exports_differ [] h = tt
 exports_differ (Extern f ∷ file) h = exports_differ file h.1
 exports_differ (Export f ∷ file) h = (exports_are (λ y. bytes_eq f.name y ≡ false) file h.0, exports_differ file h.1)
+
+-- the names of what a module exports behind its functions
+abbrev pub state_names : List (List ℕ)
+state_names = codes "memory" ∷ codes "panic_cause" ∷ codes "panic_ptr" ∷ codes "panic_len" ∷ []
 
 -- a name that isn't reserved is none of the four
 abbrev IsNoState : List ℕ → Type 0

@@ -25,4 +25,5 @@ pub mod StepsRun
 pub mod BodyRuns
 pub mod Entry
 pub mod CallsAgree
+pub mod ModuleShows
 pub mod Rightness

@@ -8,10 +8,9 @@ use Rattle.zw_form.specs.declared.program.Import.{Import}
 use Rattle.zw_form.specs.declared.source.Declaration.{Declaration}
 use Rattle.zw_form.specs.declared.source.ExportedFunction.{ExportedFunction}
 use Rattle.zw_form.specs.declared.source.ExternFunction.{ExternFunction}
-use Rattle.zw_lower.proofs.FileNames.{names_of_exports}
+use Rattle.zw_lower.proofs.FileNames.{names_of_exports, state_names}
 use Rattle.zw_lower.proofs.NameLemmas.{same_name}
 use Rattle.zw_lower.specs.Modules.{imports_from, exports_from, state_exports, module_of}
-use Rattle.zw_lower.specs.Right.{state_names}
 use Rattle.zw_wasm.specs.declared.module.ExportDef.{ExportDef}
 use Rattle.zw_wasm.specs.declared.module.FuncImport.{FuncImport}
 

@@ -6,7 +6,7 @@ use Rattle.zw_form.specs.Trees.{Tree, declaration_of}
 use Rattle.zw_form.specs.declared.program.Program.{Program}
 use Rattle.zw_lower.proofs.CallsAgree.{file_agrees}
 use Rattle.zw_lower.proofs.FileImports.{file_module}
-use Rattle.zw_lower.proofs.ModuleNames.{module_imports_from_env, module_imports, module_exports}
+use Rattle.zw_lower.proofs.ModuleShows.{module_shows}
 use Rattle.zw_lower.proofs.ModuleValid.{module_valid}
 use Rattle.zw_lower.proofs.ModuleWellFormed.{module_well_formed}
 use Rattle.zw_lower.specs.Modules.{module_of}
@@ -17,9 +17,7 @@ use Rattle.zw_wasm.specs.declared.module.Module.{Module}
 file_does : (trees : List Tree) → KeepsRules (map declaration_of trees) → IsSmall trees → Does trees (file_module trees)
 file_does trees rules small = record {
   valid = module_valid trees rules small;
-  imports_from_env = module_imports_from_env (map declaration_of trees);
-  imports = module_imports (map declaration_of trees);
-  exports = module_exports (map declaration_of trees);
+  shows = module_shows trees rules;
   agrees = file_agrees trees rules small;
 }
 

@@ -146,10 +146,13 @@ pub fn panic_globals(alloc: Global) -> Result<Items<GlobalDef>, Oom>
 fn panic_global(alloc: Global) -> Result<GlobalDef, Oom>
     ensures { IfOk result (λ global. global ≡ zero_global) }
 {
+    let mut init = Items::new(alloc);
+    init.push(Instr::I32Const(0))?;
+    init.push(Instr::End)?;
     Ok(GlobalDef {
         ty: ValType::I32,
         mutable: true,
-        init: Items::from_slice(alloc, &[Instr::I32Const(0), Instr::End])?,
+        init,
     })
 }
 

@@ -1,2 +1,11 @@
 pub mod ArithmeticLemmas
+pub mod BitLaws
+pub mod BitLemmas
+pub mod CountLaws
+pub mod CountLemmas
+pub mod DivisionLemmas
+pub mod ExactLemmas
+pub mod ReversalLaws
+pub mod ReversalLemmas
+pub mod ShiftLemmas
 pub mod WrappedLemmas

@@ -1,16 +1,32 @@
 //! Exact arithmetic on whole numbers of Zig's integer types. The crate takes no memory and knows nothing of Zig's text.
+//!
+//! Every call's operands are values of its type, unless the call says otherwise.
 #![tactic(auto)]
 
 mod arithmetic;
+mod bits;
+mod counting;
+mod division;
 mod int_ty;
 mod laws;
 mod num_fault;
 pub mod op;
+mod reversal;
+mod saturating;
+mod shifts;
+mod wrapping;
 
-pub use arithmetic::{add, add_wrap, sub};
+pub use arithmetic::{add, cast, mul, neg, sub};
+pub use bits::{bit_and, bit_not, bit_or, bit_xor};
+pub use counting::{clz, ctz, pop_count};
+pub use division::{div_exact, div_floor, div_trunc, modulo, rem};
 pub use int_ty::IntTy;
-pub use laws::{type_ranges, unsigned_arithmetic, wrapped_values};
+pub use laws::{
+    bit_operators, counts, exact_answers, quotients, reversals, saturated_values, twice,
+    type_ranges, unsigned_arithmetic, wrapped_values, wrapping_is_exact,
+};
 pub use num_fault::NumFault;
-
-#[cfg(test)]
-mod tests;
+pub use reversal::{bit_reverse, byte_swap};
+pub use saturating::{add_sat, mul_sat, shl_sat, sub_sat};
+pub use shifts::{shl, shl_exact, shr, shr_exact};
+pub use wrapping::{add_wrap, mul_wrap, sub_wrap, truncate};

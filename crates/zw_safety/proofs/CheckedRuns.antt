@@ -13,14 +13,14 @@ use Rattle.zw_safety.specs.Code.{kept, add_code, sub_code, if_panics}
 use Rattle.zw_session.specs.Causes.{integer_overflow}
 use Rattle.zw_wasm.proofs.RunsCompose.{runs-then, halts-then, runs-local_get, runs-local_set, runs-i32_add, runs-i32_sub, runs-i32_lt_u}
 use Rattle.zw_wasm.specs.declared.module.Instr.{Instr}
-use Rattle.zw_wasm.specs.declared.module.Instr.TheVariants.{LocalGet, LocalSet, I32LtU, I32Add, I32Sub}
+use Rattle.zw_wasm.specs.declared.module.Instr.TheVariants.{LocalGet, LocalSet}
 use Rattle.zw_wasm.specs.declared.module.Module.{Module}
 use Rattle.zw_wasm.specs.declared.num.Num.{Num}
 use Rattle.zw_wasm.specs.declared.num.Num.TheVariants.{I32}
 use Rattle.zw_wasm.specs.Reduction.{Config}
 use Rattle.zw_wasm.specs.Sequences.{placed, with_locals, Runs}
 use Rattle.zw_wasm.specs.Signature.{View}
-use Rattle.zw_wasm.specs.Structure.{code_of}
+use Rattle.zw_wasm.specs.Structure.{code_of, i32_add, i32_lt_u, i32_sub}
 
 -- the locals with both operands in the first two of the eight
 abbrev both : ℕ → ℕ → ℕ → List Num → List Num
@@ -59,19 +59,19 @@ sub-less : (x y : ℕ) → y ≤ x → x < 2 ^ 32 → (x + (2 ^ 32 - y)) % 2 ^ 3
 sub-less x y h small = omega (arith, h, small)
 
 -- up to the choice, for what the comparison gives
-sub-compares : (m : Module) (v : View) (c : Config) (s x y : ℕ) (rest : List Instr) (os : List Num) → HasScratch s c.frame.locals → Runs m v (placed (code_of (sub_code s ++ rest)) (I32 y ∷ I32 x ∷ os) c) (placed (code_of (if_panics integer_overflow ++ (LocalGet (s + 1) ∷ LocalGet s ∷ I32Sub ∷ rest))) (I32 (bit (nat_lt x y)) ∷ os) (with_locals (both s x y c.frame.locals) c)) 5
+sub-compares : (m : Module) (v : View) (c : Config) (s x y : ℕ) (rest : List Instr) (os : List Num) → HasScratch s c.frame.locals → Runs m v (placed (code_of (sub_code s ++ rest)) (I32 y ∷ I32 x ∷ os) c) (placed (code_of (if_panics integer_overflow ++ (LocalGet (s + 1) ∷ LocalGet s ∷ i32_sub ∷ rest))) (I32 (bit (nat_lt x y)) ∷ os) (with_locals (both s x y c.frame.locals) c)) 5
 sub-compares m v c s x y rest os h =
-    let tail = if_panics integer_overflow ++ (LocalGet (s + 1) ∷ LocalGet s ∷ I32Sub ∷ rest) in
-    runs-then (kept-runs m v c s x y (I32LtU ∷ tail) os h) (runs-i32_lt_u m v (with_locals (both s x y c.frame.locals) c) x y (code_of tail) os)
+    let tail = if_panics integer_overflow ++ (LocalGet (s + 1) ∷ LocalGet s ∷ i32_sub ∷ rest) in
+    runs-then (kept-runs m v c s x y (i32_lt_u ∷ tail) os h) (runs-i32_lt_u m v (with_locals (both s x y c.frame.locals) c) x y (code_of tail) os)
 
-sub-ends : (m : Module) (v : View) (c : Config) (s x y : ℕ) (rest : List Instr) (os : List Num) → HasScratch s c.frame.locals → y ≤ x → x < 2 ^ 32 → Runs m v (placed (code_of (LocalGet (s + 1) ∷ LocalGet s ∷ I32Sub ∷ rest)) os (with_locals (both s x y c.frame.locals) c)) (placed (code_of rest) (I32 (x - y) ∷ os) (with_locals (both s x y c.frame.locals) c)) 3
+sub-ends : (m : Module) (v : View) (c : Config) (s x y : ℕ) (rest : List Instr) (os : List Num) → HasScratch s c.frame.locals → y ≤ x → x < 2 ^ 32 → Runs m v (placed (code_of (LocalGet (s + 1) ∷ LocalGet s ∷ i32_sub ∷ rest)) os (with_locals (both s x y c.frame.locals) c)) (placed (code_of rest) (I32 (x - y) ∷ os) (with_locals (both s x y c.frame.locals) c)) 3
 sub-ends m v c s x y rest os h less small =
     let locals = c.frame.locals in
     let d = with_locals (both s x y locals) c in
-    let first = runs-local_get m v d (s + 1) (I32 x) (code_of (LocalGet s ∷ I32Sub ∷ rest)) os (both-left s x y locals h) in
-    let second = runs-local_get m v d s (I32 y) (code_of (I32Sub ∷ rest)) (I32 x ∷ os) (both-right s x y locals h) in
+    let first = runs-local_get m v d (s + 1) (I32 x) (code_of (LocalGet s ∷ i32_sub ∷ rest)) os (both-left s x y locals h) in
+    let second = runs-local_get m v d s (I32 y) (code_of (i32_sub ∷ rest)) (I32 x ∷ os) (both-right s x y locals h) in
     let third = runs-i32_sub m v d x y (code_of rest) os in
-    subst (λ n. Runs m v (placed (code_of (LocalGet (s + 1) ∷ LocalGet s ∷ I32Sub ∷ rest)) os d) (placed (code_of rest) (I32 n ∷ os) d) 3) (sub-less x y less small)
+    subst (λ n. Runs m v (placed (code_of (LocalGet (s + 1) ∷ LocalGet s ∷ i32_sub ∷ rest)) os d) (placed (code_of rest) (I32 n ∷ os) d) 3) (sub-less x y less small)
     (runs-then first (runs-then second third))
 
 sub-answers_for : (b : Bool) (m : Module) (v : View) (c : Config) (s x y : ℕ) (rest : List Instr) (os : List Num) → nat_lt x y ≡ b → HasScratch s c.frame.locals → HasPanicState c.world.store → x < 2 ^ 32 → Answers m v s (difference_in 32 x y) (placed (code_of (sub_code s ++ rest)) (I32 y ∷ I32 x ∷ os) c) (code_of rest) os
@@ -79,17 +79,17 @@ sub-answers_for true m v c s x y rest os e h state small =
     let locals = both s x y c.frame.locals in
     let more : nat_le y x ≡ false = grind (arith, nat_tests, ltb-true x y e) in
     let start = placed (code_of (sub_code s ++ rest)) (I32 y ∷ I32 x ∷ os) c in
-    let tail = LocalGet (s + 1) ∷ LocalGet s ∷ I32Sub ∷ rest in
+    let tail = LocalGet (s + 1) ∷ LocalGet s ∷ i32_sub ∷ rest in
     let compares = subst (λ b. Runs m v start (placed (code_of (if_panics integer_overflow ++ tail)) (I32 (bit b) ∷ os) (with_locals locals c)) 5) e (sub-compares m v c s x y rest os h) in
     subst (λ b. Answers m v s (if b then Some (x - y) else None) start (code_of rest) os) (sym more)
-    (record { taken = 13; few = lit≤ tt; halts = halts-then compares (if_panics-halts m v (with_locals locals c) tail os state) })
+    (record { taken = 13; few = lit≤ tt; halts = halts-then compares (if_panics-halts m v (with_locals locals c) integer_overflow tail os state) })
 sub-answers_for false m v c s x y rest os e h state small =
     let locals = both s x y c.frame.locals in
     let less : y ≤ x = ltb-false x y e in
     let start = placed (code_of (sub_code s ++ rest)) (I32 y ∷ I32 x ∷ os) c in
-    let tail = LocalGet (s + 1) ∷ LocalGet s ∷ I32Sub ∷ rest in
+    let tail = LocalGet (s + 1) ∷ LocalGet s ∷ i32_sub ∷ rest in
     let compares = subst (λ b. Runs m v start (placed (code_of (if_panics integer_overflow ++ tail)) (I32 (bit b) ∷ os) (with_locals locals c)) 5) e (sub-compares m v c s x y rest os h) in
-    let passes = runs-then compares (if_panics-passed m v (with_locals locals c) tail os) in
+    let passes = runs-then compares (if_panics-passed m v (with_locals locals c) integer_overflow tail os) in
     subst (λ b. Answers m v s (if b then Some (x - y) else None) start (code_of rest) os) (sym (le-leb y x less))
     (record { locals = locals; kept = both-keeps s x y c.frame.locals; taken = 9; few = lit≤ tt; runs = runs-then passes (sub-ends m v c s x y rest os h less small) })
 
@@ -130,11 +130,11 @@ add-compares m v c s x y rest os h =
     let tail = if_panics integer_overflow ++ (LocalGet s ∷ rest) in
     let d = with_locals (both s x y locals) c in
     let e = with_locals (summed s x y locals) c in
-    let first = kept-runs m v c s x y (I32Add ∷ LocalSet s ∷ LocalGet s ∷ LocalGet (s + 1) ∷ I32LtU ∷ tail) os h in
-    let second = runs-i32_add m v d x y (code_of (LocalSet s ∷ LocalGet s ∷ LocalGet (s + 1) ∷ I32LtU ∷ tail)) os in
-    let third = runs-local_set m v d s (I32 sum) (code_of (LocalGet s ∷ LocalGet (s + 1) ∷ I32LtU ∷ tail)) os (omega (arith, h, both-count s x y locals)) in
-    let fourth = runs-local_get m v e s (I32 sum) (code_of (LocalGet (s + 1) ∷ I32LtU ∷ tail)) os (summed-sum s x y locals h) in
-    let fifth = runs-local_get m v e (s + 1) (I32 x) (code_of (I32LtU ∷ tail)) (I32 sum ∷ os) (summed-left s x y locals h) in
+    let first = kept-runs m v c s x y (i32_add ∷ LocalSet s ∷ LocalGet s ∷ LocalGet (s + 1) ∷ i32_lt_u ∷ tail) os h in
+    let second = runs-i32_add m v d x y (code_of (LocalSet s ∷ LocalGet s ∷ LocalGet (s + 1) ∷ i32_lt_u ∷ tail)) os in
+    let third = runs-local_set m v d s (I32 sum) (code_of (LocalGet s ∷ LocalGet (s + 1) ∷ i32_lt_u ∷ tail)) os (omega (arith, h, both-count s x y locals)) in
+    let fourth = runs-local_get m v e s (I32 sum) (code_of (LocalGet (s + 1) ∷ i32_lt_u ∷ tail)) os (summed-sum s x y locals h) in
+    let fifth = runs-local_get m v e (s + 1) (I32 x) (code_of (i32_lt_u ∷ tail)) (I32 sum ∷ os) (summed-left s x y locals h) in
     let sixth = runs-i32_lt_u m v e sum x (code_of tail) os in
     runs-then first (runs-then second (runs-then third (runs-then fourth (runs-then fifth sixth))))
 
@@ -145,14 +145,14 @@ add-answers_for true m v c s x y rest os e h state small_x small_y =
     let tail = LocalGet s ∷ rest in
     let compares = subst (λ b. Runs m v start (placed (code_of (if_panics integer_overflow ++ tail)) (I32 (bit b) ∷ os) (with_locals locals c)) 9) e (add-compares m v c s x y rest os h) in
     subst (λ b. Answers m v s (if b then Some (x + y) else None) start (code_of rest) os) (sym (sum-overflows x y small_x small_y e))
-    (record { taken = 17; few = lit≤ tt; halts = halts-then compares (if_panics-halts m v (with_locals locals c) tail os state) })
+    (record { taken = 17; few = lit≤ tt; halts = halts-then compares (if_panics-halts m v (with_locals locals c) integer_overflow tail os state) })
 add-answers_for false m v c s x y rest os e h state small_x small_y =
     let locals = summed s x y c.frame.locals in
     let fits = sum-fits x y small_x small_y e in
     let start = placed (code_of (add_code s ++ rest)) (I32 y ∷ I32 x ∷ os) c in
     let tail = LocalGet s ∷ rest in
     let compares = subst (λ b. Runs m v start (placed (code_of (if_panics integer_overflow ++ tail)) (I32 (bit b) ∷ os) (with_locals locals c)) 9) e (add-compares m v c s x y rest os h) in
-    let passes = runs-then compares (if_panics-passed m v (with_locals locals c) tail os) in
+    let passes = runs-then compares (if_panics-passed m v (with_locals locals c) integer_overflow tail os) in
     let ends = runs-local_get m v (with_locals locals c) s (I32 ((x + y) % 2 ^ 32)) (code_of rest) os (summed-sum s x y c.frame.locals h) in
     let runs = subst (λ n. Runs m v start (placed (code_of rest) (I32 n ∷ os) (with_locals locals c)) 11) (mod-eq_of_lt fits) (runs-then passes ends) in
     subst (λ b. Answers m v s (if b then Some (x + y) else None) start (code_of rest) os) (sym (lt-ltb (x + y) (2 ^ 32) fits))
@@ -163,6 +163,6 @@ add-answers m v c s x y rest os h state small_x small_y = add-answers_for (nat_l
 
 -- ---- the sum that wraps
 
-pub add_wrap-answers : (m : Module) (v : View) (c : Config) (s x y : ℕ) (rest : List Instr) (os : List Num) → Answers m v s (Some (add_wrap_unsigned 32 x y)) (placed (code_of (I32Add ∷ rest)) (I32 y ∷ I32 x ∷ os) c) (code_of rest) os
+pub add_wrap-answers : (m : Module) (v : View) (c : Config) (s x y : ℕ) (rest : List Instr) (os : List Num) → Answers m v s (Some (add_wrap_unsigned 32 x y)) (placed (code_of (i32_add ∷ rest)) (I32 y ∷ I32 x ∷ os) c) (code_of rest) os
 add_wrap-answers m v c s x y rest os =
     record { locals = c.frame.locals; kept = keeps-same s c.frame.locals; taken = 1; few = lit≤ tt; runs = runs-i32_add m v c x y (code_of rest) os }

@@ -23,9 +23,9 @@ second_local s locals h = h.first 1 (lit< tt)
 takes-set : (x : Context) (n : ℕ) (ts : List ValType) → IsNumberGlobal x.module_ n → Takes x (GlobalSet n ∷ []) (I32 ∷ ts) ts
 takes-set x n ts h = subst (λ t. Takes x (GlobalSet n ∷ []) (t ∷ ts) ts) h.type_is (takes-global_set x n h.global ts h.there h.mutable)
 
-takes-if_panics : (x : Context) (ts : List ValType) → PanicStateIsTyped x.module_ → Takes x (if_panics integer_overflow) (I32 ∷ ts) ts
-takes-if_panics x ts h =
-    let first = takes-then (takes-i32_const x (pos 1) []) (takes-set x 0 [] h.cause) in
+pub takes-if_panics : (x : Context) (cause : ℕ) (ts : List ValType) → PanicStateIsTyped x.module_ → Takes x (if_panics cause) (I32 ∷ ts) ts
+takes-if_panics x cause ts h =
+    let first = takes-then (takes-i32_const x (pos cause) []) (takes-set x 0 [] h.cause) in
     let second = takes-then (takes-i32_const x (pos 0) []) (takes-set x 1 [] h.pointer) in
     let third = takes-then (takes-i32_const x (pos 0) []) (takes-set x 2 [] h.count) in
     takes-if_unreachable x _ [] ts (takes-then first (takes-then second third))
@@ -44,7 +44,7 @@ takes-sub x s ts h state =
     let left = second_local s x.locals h in
     takes-then (takes-kept x s ts h)
     (takes-then (takes-i32_lt_u x ts)
-    (takes-then (takes-if_panics x ts state)
+    (takes-then (takes-if_panics x integer_overflow ts state)
     (takes-then (takes-local_get x (s + 1) I32 ts left)
     (takes-then (takes-local_get x s I32 (I32 ∷ ts) right) (takes-i32_sub x ts)))))
 
@@ -58,7 +58,7 @@ takes-add x s ts h state =
     (takes-then (takes-local_get x s I32 ts right)
     (takes-then (takes-local_get x (s + 1) I32 (I32 ∷ ts) left)
     (takes-then (takes-i32_lt_u x ts)
-    (takes-then (takes-if_panics x ts state) (takes-local_get x s I32 ts right)))))))
+    (takes-then (takes-if_panics x integer_overflow ts state) (takes-local_get x s I32 ts right)))))))
 
 pub add-checked : (s : ℕ) → IsChecked ADD s (checked_code ADD s)
 add-checked s = record {

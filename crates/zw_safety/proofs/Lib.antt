@@ -2,3 +2,9 @@ pub mod Locals
 pub mod Panics
 pub mod CheckedRuns
 pub mod CheckedTypes
+pub mod Words
+pub mod Pieces
+pub mod NarrowTypes
+pub mod NarrowRuns
+pub mod WordRuns
+pub mod OperatorsRight

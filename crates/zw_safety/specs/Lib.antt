@@ -1,2 +1,4 @@
 pub mod Code
 pub mod Checked
+pub mod NarrowCode
+pub mod Operators

@@ -4,3 +4,4 @@ pub mod Sessions
 pub mod Agrees
 pub mod Bounds
 pub mod Example
+pub mod Apart

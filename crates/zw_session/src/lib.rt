@@ -9,6 +9,7 @@ ghost use Rattle.std.specs.Prelude.{ℕ, List};
 ghost use Rattle.zw_session.specs.Sessions.{Machine, Call, session, AllFit};
 ghost use Rattle.zw_session.specs.Bounds.{StaysEnded, SessionsStayEnded, GoesInOrder};
 ghost use Rattle.zw_session.specs.Agrees.{AgreesOnCalls, Agrees, OnlySuchEnds};
+ghost use Rattle.zw_session.specs.Apart.{TellsApart};
 
 /// A machine whose calls stay ended, once they ended, under a larger bound.
 pub trait Bounded {
@@ -67,6 +68,11 @@ pub fn target_ends_as_source<S: Simulation>()
     ensures { (calls : List Call) → AllFit S.source calls → (replies : List ℕ) →
         OnlySuchEnds (session S.source calls S.source_start replies)
         (session S.target calls S.target_start replies) }
+{}
+
+/// Two machines that differ in a host call, a result, a panic, an answer to a reply, or in that one goes on don't agree.
+pub fn machines_are_told_apart()
+    ensures { TellsApart }
 {}
 
 #[cfg(test)]

@@ -1,4 +1,13 @@
-pub mod Places
-pub mod Forms
-pub mod Values
+pub mod Decimals
+pub mod Digits
+pub mod Escapes
+pub mod FirstBad
+pub mod Fronts
+pub mod Groups
+pub mod Items
+pub mod KindLemmas
 pub mod Lists
+pub mod Places
+pub mod PlainTexts
+pub mod Signs
+pub mod Stops

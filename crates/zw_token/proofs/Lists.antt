@@ -1,77 +1,45 @@
 -- The tokens of a text, one after the other.
-use Rattle.std.proofs.Common.{◌≡◌, ℕ, zero, suc, ◌+◌, ◌<◌, ◌≤◌, true, false, List, [], ◌∷◌, ◌++◌, length, get_or, take, drop, sym, refl, ap, ◌∙◌, subst, inl, inr, ⊎_elim, arith, append_assoc, length-drop, length-take-le}
-use Rattle.std.specs.List.{prefix_len, All}
-use Rattle.std.proofs.lemmas.Bool.{false≢true, not-true, cases_lt}
-use Rattle.std.proofs.lemmas.List.{get_or-drop, get_or_past}
-use Rattle.std.proofs.lemmas.List.Sums.{prefix_len_stops, prefix_len_passes, prefix_len-le-length}
+use Rattle.std.proofs.Common.{◌≡◌, ℕ, zero, suc, ◌+◌, ◌<◌, ◌≤◌, true, false, List, [], ◌∷◌, ◌++◌, length, get_or, drop, Ok, Err, sym, refl, ap, ◌∙◌, subst, inl, inr, ⊎_elim, arith, append_assoc, length-drop}
+use Rattle.std.proofs.lemmas.Bool.{false≢true}
+use Rattle.zw_token.specs.declared.token.TextError.{TextError}
 use Rattle.zw_token.specs.declared.token.Token.{Token}
 use Rattle.zw_token.specs.declared.token.TokenKind.{TokenKind}
 use Rattle.zw_token.specs.declared.token.TokenKind.TheVariants.{End}
-use Rattle.zw_token.specs.Bytes.{is_white}
-use Rattle.zw_token.specs.Tokens.{IsOfKind, BeginsToken, StandsIn, IsEnd, IsGap, empty, white, IsNext, TokensFrom, last, more, Tokens, LiesIn, start_of}
-use Rattle.zw_token.proofs.Forms.{FirstIs-length, FirstIs-get_or, form_first, kind_form, begin_first, one_begin}
+use Rattle.zw_token.specs.Bytes.{starts_blank, blank_len}
+use Rattle.zw_token.specs.Front.{Front, front}
+use Rattle.zw_token.specs.Tokens.{BeginsWrong, StandsIn, IsEnd, IsGap, empty, blank, IsNext, TokensFrom, last, more, WrongFrom, here, behind, LiesIn, DoNotOverlap, start_of}
+use Rattle.zw_token.proofs.Fronts.{Fits, front_fits, NotEnd, front_not_end}
 
--- no white space stands at the place
-abbrev Stops : List ℕ → ℕ → Type 0
-Stops text at = is_white (get_or text at 0) ≡ false
-
-zero_stops : is_white 0 ≡ false
-unfolding is_white
-zero_stops = refl
-
-past_stops : (text : List ℕ) (at : ℕ) → length text ≤ at → Stops text at
-past_stops text at past = ap is_white (get_or_past text at 0 past) ∙ zero_stops
-
--- n bytes of white space are a gap
-gap_of : (text : List ℕ) (n from : ℕ) → ((k : ℕ) → k < n → is_white (get_or text (from + k) 0) ≡ true) → IsGap text from (from + n)
-gap_of text zero from all = empty (omega arith)
-gap_of text (suc n) from all =
-    let first : from + 0 ≡ from = omega arith in
-    let next : (from + 1) + n ≡ from + suc n = omega arith in
-    white (ap (λ i. is_white (get_or text i 0)) (sym first) ∙ all 0 (omega arith))
-    (subst (IsGap text (from + 1)) next
-    (gap_of text n (from + 1) (λ k below. let place : (from + 1) + k ≡ from + suc k = omega arith in ap (λ i. is_white (get_or text i 0)) place ∙ all (suc k) (omega arith))))
+-- no blank begins at the place
+abbrev pub Stops : List ℕ → ℕ → Type 0
+Stops text at = starts_blank (drop at text) ≡ false
 
 -- a gap doesn't go back
 pub gap_ordered : {text : List ℕ} {from to : ℕ} → IsGap text from to → from ≤ to
 gap_ordered (empty same) = omega arith
-gap_ordered (white first rest) = let more = gap_ordered rest in omega arith
+gap_ordered (blank first rest) = let more = gap_ordered rest in omega arith
 
--- the white space of a text from a place on is a gap, and ends where none stands
-module _ (text : List ℕ) (from n : ℕ) (run : n ≡ prefix_len is_white (drop from text)) where
-  pub run_within : from ≤ length text → from + n ≤ length text
-  run_within h = omega (arith, prefix_len-le-length is_white (drop from text), length-drop from text)
-
-  pub run_gap : IsGap text from (from + n)
-  run_gap = gap_of text n from (λ k below. ap is_white (sym (get_or-drop from text k 0)) ∙ prefix_len_passes is_white (drop from text) k 0 (omega arith))
-
-  pub run_stops : Stops text (from + n)
-  run_stops =
-      ⊎_elim
-      (λ inside. ap is_white (sym (get_or-drop from text n 0) ∙ ap (λ i. get_or (drop from text) i 0) run) ∙ prefix_len_stops is_white (drop from text) 0 (omega arith))
-      (λ past. past_stops text (from + n) (omega (arith, length-drop from text)))
-      (cases_lt n (length (drop from text)))
-
--- two gaps from one place end at the same, where no white space stands
-one_gap : {text : List ℕ} {from s t : ℕ} → IsGap text from s → IsGap text from t → Stops text s → Stops text t → s ≡ t
+-- two gaps from one place end at the same, where no blank begins
+pub one_gap : {text : List ℕ} {from s t : ℕ} → IsGap text from s → IsGap text from t → Stops text s → Stops text t → s ≡ t
 one_gap (empty same_s) (empty same_t) stops_s stops_t = sym same_s ∙ same_t
-one_gap {text} (empty same_s) (white first rest) stops_s stops_t = absurd (false≢true (sym stops_s ∙ ap (λ i. is_white (get_or text i 0)) (sym same_s) ∙ first))
-one_gap {text} (white first rest) (empty same_t) stops_s stops_t = absurd (false≢true (sym stops_t ∙ ap (λ i. is_white (get_or text i 0)) (sym same_t) ∙ first))
-one_gap (white first rest) (white first' rest') stops_s stops_t = one_gap rest rest' stops_s stops_t
+one_gap {text} (empty same_s) (blank first rest) stops_s stops_t = absurd (false≢true (sym stops_s ∙ ap (λ i. starts_blank (drop i text)) (sym same_s) ∙ first))
+one_gap {text} (blank first rest) (empty same_t) stops_s stops_t = absurd (false≢true (sym stops_t ∙ ap (λ i. starts_blank (drop i text)) (sym same_t) ∙ first))
+one_gap (blank first rest) (blank first' rest') stops_s stops_t = one_gap rest rest' stops_s stops_t
 
 -- a token has a byte, and ends in its text
 pub stands_size : (text : List ℕ) (t : Token) → StandsIn text t → (t.start < t.end) × (t.end ≤ length text)
 stands_size text t stands =
-    let begins = stands.2 in
-    let some : 0 < length (take stands.0 (drop t.start text)) = FirstIs-length _ _ (form_first _ (kind_form t.kind _ begins.of_kind)) in
-    let within = begins.within in
-    let size = length-take-le stands.0 (drop t.start text) begins.within in
-    (omega (arith, stands.1), omega (arith, stands.1, length-drop t.start text))
+    let fits = subst (Fits (length (drop t.start text))) stands.2.is_front (front_fits (drop t.start text)) in
+    (omega (arith, stands.1, fits.0), omega (arith, stands.1, fits.0, fits.1, length-drop t.start text))
 
-stands_stops : (text : List ℕ) (t : Token) → StandsIn text t → Stops text t.start
-stands_stops text t stands =
-    let place : t.start + 0 ≡ t.start = omega arith in
-    ap is_white (sym (get_or-drop t.start text 0 0 ∙ ap (λ i. get_or text i 0) place)) ∙ not-true _ (FirstIs-get_or _ _ (begin_first _ t.kind stands.0 stands.2))
+pub past_empty : (text : List ℕ) (at : ℕ) → length text ≤ at → drop at text ≡ []
+past_empty [] zero h = refl
+past_empty [] (suc at) h = refl
+past_empty (b ∷ text) zero h = absurd (omega arith)
+past_empty (b ∷ text) (suc at) h = past_empty text at (omega arith)
+
+pub past_stops : (text : List ℕ) (at : ℕ) → length text ≤ at → Stops text at
+past_stops text at past = ap starts_blank (past_empty text at past)
 
 end_stops : (text : List ℕ) (t : Token) → IsEnd text t → Stops text t.start
 end_stops text t end = past_stops text t.start (omega (arith, end.start))
@@ -79,21 +47,32 @@ end_stops text t end = past_stops text t.start (omega (arith, end.start))
 -- the end of a text isn't where a token stands
 end_apart : (text : List ℕ) (from : ℕ) (t u : Token) → IsGap text from t.start → IsEnd text t → IsGap text from u.start → StandsIn text u → ⊥
 end_apart text from t u gap_t end gap_u stands =
-    let same = one_gap gap_t gap_u (end_stops text t end) (stands_stops text u stands) in
+    let start = one_gap gap_t gap_u (end_stops text t end) stands.2.no_blank in
     let size = stands_size text u stands in
-    omega (arith, end.start)
+    omega (arith, start, end.start, size.0, size.1)
 
 same_token : (t u : Token) → t.kind ≡ u.kind → t.start ≡ u.start → t.end ≡ u.end → t ≡ u
 same_token t u kind start end = λ i. record { kind = kind i; start = start i; end = end i }
 
 one_end : (text : List ℕ) (t u : Token) → IsEnd text t → IsEnd text u → t ≡ u
-one_end text t u left right = same_token t u (left.kind ∙ sym right.kind) (left.start ∙ sym right.start) (left.end ∙ sym right.end)
+one_end text t u a b = same_token t u (a.kind ∙ sym b.kind) (a.start ∙ sym b.start) (a.end ∙ sym b.end)
 
+token_of : Front → TokenKind × ℕ → TokenKind × ℕ
+token_of (Ok token) other = token
+token_of (Err error) other = other
+
+one_front : (a b : TokenKind) (m n : ℕ) (f : Front) → f ≡ Ok (a, m) → f ≡ Ok (b, n) → (a ≡ b) × (m ≡ n)
+unfolding token_of
+one_front a b m n f left right =
+    let same = ap (λ g. token_of g (a, m)) (sym left ∙ right) in
+    (ap (λ token. token.0) same, ap (λ token. token.1) same)
+
+-- one token stands behind a gap
 one_stand : (text : List ℕ) (from : ℕ) (t u : Token) → IsGap text from t.start → StandsIn text t → IsGap text from u.start → StandsIn text u → t ≡ u
 one_stand text from t u gap_t left gap_u right =
-    let start = one_gap gap_t gap_u (stands_stops text t left) (stands_stops text u right) in
-    let begins = one_begin (drop u.start text) t.kind u.kind left.0 right.0 (subst (λ s. BeginsToken (drop s text) t.kind left.0) start left.2) right.2 in
-    same_token t u begins.0 start (omega (arith, left.1, right.1, start, begins.1))
+    let start = one_gap gap_t gap_u left.2.no_blank right.2.no_blank in
+    let same = one_front t.kind u.kind left.0 right.0 (front (drop u.start text)) (ap (λ s. front (drop s text)) (sym start) ∙ left.2.is_front) right.2.is_front in
+    same_token t u same.0 start (omega (arith, left.1, right.1, start, same.1))
 
 -- a text has one token list from a place on
 pub one_from : {text : List ℕ} {from : ℕ} {a b : List Token} → TokensFrom text from a → TokensFrom text from b → a ≡ b
@@ -105,71 +84,117 @@ one_from {text} {from} (more {t = t} {ts = ts} gap stands rest) (more {t = u} {t
     let es = one_from rest (subst (λ x. TokensFrom text x.end us) (sym e) rest') in
     λ i. e i ∷ es i
 
--- the next token of a text is the end of it where its kind says so
-pub next_end : (text : List ℕ) (from : ℕ) (t : Token) → IsNext text from t → t.kind ≡ End → IsEnd text t
-next_end text from t next kind =
-    ⊎_elim (λ end. end) (λ stands. absurd (subst (λ k. IsOfKind k (take stands.0 (drop t.start text))) kind stands.2.of_kind)) next.1
+-- a gap up to a place goes on by a blank that begins there
+pub gap_more : (text : List ℕ) (at n : ℕ) → starts_blank (drop at text) ≡ true → n ≡ blank_len (drop at text) → (to : ℕ) → IsGap text (at + n) to → IsGap text at to
+gap_more text at n starts size to rest = blank starts (subst (λ k. IsGap text (at + k) to) size rest)
 
--- and else it stands in the text
-pub next_stands : (text : List ℕ) (from : ℕ) (t : Token) → IsNext text from t → (t.kind ≡ End → ⊥) → StandsIn text t
-next_stands text from t next kind = ⊎_elim (λ end. absurd (kind end.kind)) (λ stands. stands) next.1
+error_of : Front → TextError → TextError
+error_of (Ok token) other = other
+error_of (Err error) other = error
 
--- the end of the text, behind white space
-pub end_next : (text : List ℕ) (from start : ℕ) → IsGap text from start → start ≡ length text → IsNext text from (record { kind = End; start = start; end = start })
-end_next text from start gap end = (gap, inl (record { kind = refl; start = end; end = end }))
+one_error : (a b : TextError) (f : Front) → f ≡ Err a → f ≡ Err b → a ≡ b
+unfolding error_of
+one_error a b f left right = ap (λ g. error_of g a) (sym left ∙ right)
 
--- the token that the text goes on with, behind white space
-pub token_next : (text : List ℕ) (from start : ℕ) (kind : TokenKind) (n : ℕ) → IsGap text from start → BeginsToken (drop start text) kind n → IsNext text from (record { kind = kind; start = start; end = start + n })
-token_next text from start kind n gap begins = (gap, inr (n, refl, begins))
+ok_not_err : (token : TokenKind × ℕ) (error : TextError) (f : Front) → f ≡ Ok token → f ≡ Err error → ⊥
+ok_not_err token error f left right = let same = sym left ∙ right in cc
 
--- there is no next token where the text doesn't go on with one
-pub none_next : (text : List ℕ) (from start : ℕ) → IsGap text from start → Stops text start → start < length text → ((kind : TokenKind) (n : ℕ) → BeginsToken (drop start text) kind n → ⊥) → (t : Token) → IsNext text from t → ⊥
-none_next text from start gap stops inside none t next =
-    ⊎_elim
-    (λ end. let same = one_gap gap next.0 stops (end_stops text t end) in omega (arith, end.start))
-    (λ stands. let same = one_gap gap next.0 stops (stands_stops text t stands) in none t.kind stands.0 (subst (λ s. BeginsToken (drop s text) t.kind stands.0) (sym same) stands.2))
-    next.1
+-- where a token stands, nothing is wrong
+stands_right : (text : List ℕ) (from at : ℕ) (t : Token) (error : TextError) → IsGap text from t.start → StandsIn text t → IsGap text from at → BeginsWrong (drop at text) error → ⊥
+stands_right text from at t error gap stands gap' wrong =
+    let start = one_gap gap gap' stands.2.no_blank wrong.no_blank in
+    ok_not_err (t.kind, stands.0) error (front (drop at text)) (ap (λ s. front (drop s text)) (sym start) ∙ stands.2.is_front) wrong.is_front
 
--- what follows the next token in a token list
-after_next : {text : List ℕ} {from : ℕ} {ts : List Token} (t : Token) → IsGap text from t.start → StandsIn text t → TokensFrom text from ts → (rest : List Token) × TokensFrom text t.end rest
-after_next {text} {from} t gap stands (last {t = u} gap' end') = absurd (end_apart text from u t gap' end' gap stands)
-after_next {text} {from} t gap stands (more {t = u} {ts = us} gap' stands' rest') =
-    (us, subst (λ x. TokensFrom text x.end us) (one_stand text from u t gap' stands' gap stands) rest')
+-- a text has no token list from a place on and a wrong token too
+pub never_from : {text : List ℕ} {from at : ℕ} {ts : List Token} {error : TextError} → TokensFrom text from ts → WrongFrom text from at error → ⊥
+never_from {text} {from} {at} (last {t = t} gap end) (here gap' wrong) =
+    let start = one_gap gap gap' (end_stops text t end) wrong.no_blank in
+    omega (arith, start, end.start, wrong.some_left, length-drop at text)
+never_from {text} {from} (last {t = t} gap end) (behind {t = u} gap' stands' rest') = end_apart text from t u gap end gap' stands'
+never_from {text} {from} {at} {ts} {error} (more {t = t} gap stands rest) (here gap' wrong) = stands_right text from at t error gap stands gap' wrong
+never_from {text} {from} {at} {ts} {error} (more {t = t} gap stands rest) (behind {t = u} gap' stands' rest') =
+    never_from rest (subst (λ x. WrongFrom text x.end at error) (sym (one_stand text from t u gap stands gap' stands')) rest')
 
--- a list that has a next token has one
-list_next : {text : List ℕ} {from : ℕ} {ts : List Token} → TokensFrom text from ts → (t : Token) × IsNext text from t
-list_next (last {t = t} gap end) = (t, (gap, inl end))
-list_next (more {t = t} gap stands rest) = (t, (gap, inr stands))
-
--- these are the tokens of a text up to a place: with those from there on they are all, and no list has others
-pub record TokensUpTo (text : List ℕ) (at : ℕ) (ts : List Token) : Type 0 where
-  pub goes_on : (rest : List Token) → TokensFrom text at rest → Tokens text (ts ++ rest)
-  pub in_all : (all : List Token) → Tokens text all → (rest : List Token) × TokensFrom text at rest
-
-pub none_yet : (text : List ℕ) → TokensUpTo text (start_of text) []
-none_yet text = record { goes_on = λ rest h. h; in_all = λ all h. (all, h) }
-
-pub one_more : (text : List ℕ) (at : ℕ) (ts : List Token) (t : Token) → TokensUpTo text at ts → IsGap text at t.start → StandsIn text t → TokensUpTo text t.end (ts ++ t ∷ [])
-one_more text at ts t before gap stands = record {
-  goes_on = λ rest h. subst (Tokens text) (sym (append_assoc ts (t ∷ []) rest)) (before.goes_on (t ∷ rest) (more gap stands h));
-  in_all = λ all h. after_next t gap stands (before.in_all all h).1;
-}
-
-pub all_now : (text : List ℕ) (at : ℕ) (ts : List Token) (t : Token) → TokensUpTo text at ts → IsGap text at t.start → IsEnd text t → Tokens text (ts ++ t ∷ [])
-all_now text at ts t before gap end = before.goes_on (t ∷ []) (last gap end)
-
-pub no_list : (text : List ℕ) (at : ℕ) (ts : List Token) → TokensUpTo text at ts → ((t : Token) → IsNext text at t → ⊥) → (all : List Token) → Tokens text all → ⊥
-no_list text at ts before none all h = let next = list_next (before.in_all all h).1 in none next.0 next.1
+-- and it has one first wrong token at most
+pub one_wrong : {text : List ℕ} {from at place : ℕ} {a b : TextError} → WrongFrom text from at a → WrongFrom text from place b → (at ≡ place) × (a ≡ b)
+one_wrong {text} {from} {at} {place} {a} {b} (here gap wrong) (here gap' wrong') =
+    let same = one_gap gap gap' wrong.no_blank wrong'.no_blank in
+    (same, one_error a b (front (drop place text)) (ap (λ s. front (drop s text)) (sym same) ∙ wrong.is_front) wrong'.is_front)
+one_wrong {text} {from} {at} {place} {a} {b} (here gap wrong) (behind {t = u} gap' stands' rest') = absurd (stands_right text from at u a gap' stands' gap wrong)
+one_wrong {text} {from} {at} {place} {a} {b} (behind {t = t} gap stands rest) (here gap' wrong') = absurd (stands_right text from place t b gap stands gap' wrong')
+one_wrong {text} {from} {at} {place} {a} {b} (behind {t = t} gap stands rest) (behind {t = u} gap' stands' rest') =
+    one_wrong rest (subst (λ x. WrongFrom text x.end place b) (sym (one_stand text from t u gap stands gap' stands')) rest')
 
 end_lies : (text : List ℕ) (t : Token) → IsEnd text t → LiesIn text t
 end_lies text t end = (omega (arith, end.start, end.end), omega (arith, end.end))
 
 -- each token of a list lies in the text
-lies_at : {text : List ℕ} {from : ℕ} {ts : List Token} → TokensFrom text from ts → (k : ℕ) (d : Token) → k < length ts → LiesIn text (get_or ts k d)
+pub lies_at : {text : List ℕ} {from : ℕ} {ts : List Token} → TokensFrom text from ts → (k : ℕ) (d : Token) → k < length ts → LiesIn text (get_or ts k d)
 lies_at {text} (last {t = t} gap end) zero d below = end_lies text t end
 lies_at {text} (last {t = t} gap end) (suc k) d below = absurd (omega arith)
-lies_at {text} (more {t = t} gap stands rest) zero d below = let size = stands_size text t stands in (omega arith, size.1)
+lies_at {text} (more {t = t} gap stands rest) zero d below = let size = stands_size text t stands in (omega (arith, size.0), size.1)
 lies_at {text} (more {t = t} gap stands rest) (suc k) d below = lies_at rest k d (omega arith)
 
-pub all_lie : (text : List ℕ) (ts : List Token) → Tokens text ts → All (LiesIn text) ts
-all_lie text ts list = lies_at list
+-- and none begins before the place where the list does
+starts_behind : {text : List ℕ} {from : ℕ} {ts : List Token} → TokensFrom text from ts → (k : ℕ) (d : Token) → k < length ts → from ≤ (get_or ts k d).start
+starts_behind (last gap end) zero d below = gap_ordered gap
+starts_behind (last gap end) (suc k) d below = absurd (omega arith)
+starts_behind (more gap stands rest) zero d below = gap_ordered gap
+starts_behind {text} (more {t = t} gap stands rest) (suc k) d below =
+    let ordered = gap_ordered gap in
+    let size = stands_size text t stands in
+    let later = starts_behind rest k d (omega arith) in
+    omega (arith, ordered, size.0, later)
+
+pub apart : {text : List ℕ} {from : ℕ} {ts : List Token} → TokensFrom text from ts → DoNotOverlap ts
+apart (last gap end) i j d before below = absurd (omega arith)
+apart (more gap stands rest) i zero d before below = absurd (omega arith)
+apart (more gap stands rest) zero (suc j) d before below = starts_behind rest j d (omega arith)
+apart (more gap stands rest) (suc i) (suc j) d before below = apart rest i j d (omega arith) (omega arith)
+
+-- the end of the text, behind a gap
+pub end_next : (text : List ℕ) (from start : ℕ) → IsGap text from start → start ≡ length text → IsNext text from (record { kind = End; start = start; end = start })
+end_next text from start gap end = (gap, inl (record { kind = refl; start = end; end = end }))
+
+-- the token that the text goes on with, behind a gap
+pub token_next : (text : List ℕ) (from start : ℕ) (kind : TokenKind) (n : ℕ) → IsGap text from start → Stops text start → front (drop start text) ≡ Ok (kind, n) → IsNext text from (record { kind = kind; start = start; end = start + n })
+token_next text from start kind n gap stops is_front = (gap, inr (n, refl, record { no_blank = stops; is_front = is_front }))
+
+-- no token is called the end
+no_end : (rest : List ℕ) (n : ℕ) → front rest ≡ Ok (End, n) → ⊥
+no_end rest n e = (subst NotEnd e (front_not_end rest)) refl
+
+-- the next token of a text is the end of it where its kind says so
+pub next_end : (text : List ℕ) (from : ℕ) (t : Token) → IsNext text from t → t.kind ≡ End → IsEnd text t
+next_end text from t next kind =
+    ⊎_elim (λ end. end) (λ stands. absurd (no_end (drop t.start text) stands.0 (stands.2.is_front ∙ ap (λ k. Ok (k, stands.0)) kind))) next.1
+
+-- and else it stands in the text
+pub next_stands : (text : List ℕ) (from : ℕ) (t : Token) → IsNext text from t → (t.kind ≡ End → ⊥) → StandsIn text t
+next_stands text from t next kind = ⊎_elim (λ end. absurd (kind end.kind)) (λ stands. stands) next.1
+
+-- these are the tokens of a text up to a place: with those from there on they are all, and what is wrong first from there on is
+-- what is wrong first
+pub record TokensUpTo (text : List ℕ) (at : ℕ) (ts : List Token) : Type 0 where
+  pub goes_on : (rest : List Token) → TokensFrom text at rest → TokensFrom text (start_of text) (ts ++ rest)
+  pub goes_wrong : (place : ℕ) (error : TextError) → WrongFrom text at place error → WrongFrom text (start_of text) place error
+
+pub none_yet : (text : List ℕ) → TokensUpTo text (start_of text) []
+none_yet text = record { goes_on = λ rest h. h; goes_wrong = λ place error h. h }
+
+pub one_more : (text : List ℕ) (at : ℕ) (ts : List Token) (t : Token) → TokensUpTo text at ts → IsGap text at t.start → StandsIn text t → TokensUpTo text t.end (ts ++ t ∷ [])
+one_more text at ts t before gap stands = record {
+  goes_on = λ rest h. subst (TokensFrom text (start_of text)) (sym (append_assoc ts (t ∷ []) rest)) (before.goes_on (t ∷ rest) (more gap stands h));
+  goes_wrong = λ place error h. before.goes_wrong place error (behind gap stands h);
+}
+
+pub all_now : (text : List ℕ) (at : ℕ) (ts : List Token) (t : Token) → TokensUpTo text at ts → IsGap text at t.start → IsEnd text t → TokensFrom text (start_of text) (ts ++ t ∷ [])
+all_now text at ts t before gap end = before.goes_on (t ∷ []) (last gap end)
+
+pub wrong_now : (text : List ℕ) (at : ℕ) (ts : List Token) (place : ℕ) (error : TextError) → TokensUpTo text at ts → IsGap text at place → BeginsWrong (drop place text) error → WrongFrom text (start_of text) place error
+wrong_now text at ts place error before gap wrong = before.goes_wrong place error (here gap wrong)
+
+-- what is wrong stands in the text
+pub wrong_within : {text : List ℕ} {from at : ℕ} {error : TextError} → WrongFrom text from at error → at < length text
+wrong_within {text} {from} {at} (here gap wrong) = omega (arith, wrong.some_left, length-drop at text)
+wrong_within (behind gap stands rest) = wrong_within rest

@@ -1,13 +1,15 @@
 -- What stands at a place of a table.
-use Rattle.std.proofs.Common.{◌≡◌, ℕ, ◌+◌, ◌<◌, ◌≤◌, true, false, List, length, get_or, take, Option, Some, None, IfSome, IfNone, ◌↔◌, is_some, slice_get, sym, refl, ap, ◌∙◌, subst, arith, below_more}
+use Rattle.std.proofs.Common.{◌≡◌, ℕ, ◌+◌, ◌<◌, ◌≤◌, Bool, true, false, cond, List, [], ◌∷◌, map, length, get_or, take, Option, Some, None, IfSome, IfNone, ◌↔◌, is_some, slice_get, sym, refl, ap, ◌∙◌, subst, arith, below_more}
 use Rattle.std.specs.Borrow.{Bor}
+use Rattle.std.specs.List.{prefix_len}
+use Rattle.std.specs.Prelude.{not, nat_lt, position}
 use Rattle.std.specs.Str.{bytes_eq}
 use Rattle.std.specs.Option.{option_map}
 use Rattle.std.proofs.lemmas.Bool.{false≢true}
 use Rattle.std.proofs.lemmas.List.{length-map}
 use Rattle.std.proofs.lemmas.Option.{slice_get-map, slice_get_within, slice_get-get_or, same_Some}
 use Rattle.std.proofs.lemmas.Slice.Eq.{bytes_eq-Decides}
-use Rattle.zw_token.specs.Tables.{texts, IsIn, NoLongerFront}
+use Rattle.zw_token.specs.Tables.{texts, IsIn, place_in, NoLongerFront}
 
 -- the bytes of the text at a place
 pub slice_get-texts : (table : List (Bor (List ℕ))) (k : ℕ) (d : Bor (List ℕ)) → k < length table → slice_get (texts table) k ≡ Some (get_or table k d).now
@@ -45,3 +47,14 @@ longest_all table rest k n before all m longer within is_in =
 pub IsIn-from_place : (table : List (List ℕ)) (word : List ℕ) (r : Option ℕ) → IfSome r (λ k. slice_get table k ≡ Some word) → IfNone r (IsIn table word → ⊥) → (is_some r ≡ true) ↔ IsIn table word
 IsIn-from_place table word (Some k) at none = (λ some. (k, at), λ is_in. refl)
 IsIn-from_place table word None at none = (λ some. absurd (false≢true some), λ is_in. absurd (none is_in))
+
+prefix_len-map : {X Y : Type 0} (p : Y → Bool) (f : X → Y) (xs : List X) → prefix_len (λ x. p (f x)) xs ≡ prefix_len p (map f xs)
+prefix_len-map p f [] = refl
+prefix_len-map p f (x ∷ xs) = ap (λ n. cond (p (f x)) (1 + n) 0) (prefix_len-map p f xs)
+
+-- the place in the table is that of its bytes
+pub position-texts : (table : List (Bor (List ℕ))) (word : List ℕ) → position (λ text. bytes_eq text.now word) table ≡ place_in (texts table) word
+position-texts table word =
+    let same = prefix_len-map (λ bytes. not (bytes_eq bytes word)) (λ (text : Bor (List ℕ)). text.now) table in
+    let size = length-map table (λ text. text.now) in
+    ap (λ n. cond (nat_lt n (length table)) (Some n) None) same ∙ ap (λ m. cond (nat_lt (prefix_len (λ bytes. not (bytes_eq bytes word)) (texts table)) m) (Some (prefix_len (λ bytes. not (bytes_eq bytes word)) (texts table))) None) (sym size)

@@ -1,5 +1,10 @@
 pub mod Bytes
+pub mod ErrorNumbers
+pub mod Front
+pub mod Literals
 pub mod Names
 pub mod Numbers
+pub mod Reading
 pub mod Tables
 pub mod Tokens
+pub mod Values

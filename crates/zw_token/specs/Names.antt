@@ -1,14 +1,11 @@
 -- The names that stand for types and values, and those of types that aren't in the profile.
 use Rattle.std.specs.Prelude.{ℕ, ◌⊎◌, Bool, false, ◌&&◌, ◌||◌, ◌==◌, IsTrue, List, [], ◌∷◌, map}
-use Rattle.zw_token.specs.declared.names.TheConstants.{PRIMITIVE_NAMES, REFUSED_NAMES}
+use Rattle.zw_token.specs.declared.names.TheConstants.{PRIMITIVE_NAMES}
 use Rattle.zw_token.specs.Numbers.{is_decimal}
-use Rattle.zw_token.specs.Tables.{IsIn}
+use Rattle.zw_token.specs.Tables.{IsIn, refused_names}
 
 abbrev pub primitive_names : List (List ℕ)
 primitive_names = map (λ text. text.now) PRIMITIVE_NAMES
-
-abbrev pub refused_names : List (List ℕ)
-refused_names = map (λ text. text.now) REFUSED_NAMES
 
 -- `i` or `u` and a decimal number
 abbrev pub is_sized_name : List ℕ → Bool

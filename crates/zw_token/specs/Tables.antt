@@ -1,7 +1,9 @@
 -- What stands in a table of words or signs.
-use Rattle.std.specs.Prelude.{◌≡◌, ℕ, ◌<◌, ◌≤◌, List, length, take, map, Some, slice_get}
+use Rattle.std.specs.Prelude.{◌≡◌, ℕ, ◌-◌, ◌<◌, ◌≤◌, ◌||◌, Bool, List, length, take, map, max, Option, Some, slice_get, nat_eq, nat_lt, slice_index_or, is_some, position, if◌then◌else◌}
 use Rattle.std.specs.Borrow.{Bor}
-use Rattle.zw_token.specs.declared.tables.TheConstants.{KEYWORDS, REFUSED_KEYWORDS, SIGNS}
+use Rattle.std.specs.List.{fold, starts_with}
+use Rattle.std.specs.Str.{bytes_eq}
+use Rattle.zw_token.specs.declared.tables.TheConstants.{KEYWORDS, REFUSED_KEYWORDS, REFUSED_NAMES, SIGNS, SIGN_GROUPS, BUILTINS}
 
 -- the bytes of each text of a table
 abbrev pub texts : List (Bor (List ℕ)) → List (List ℕ)
@@ -15,14 +17,37 @@ keywords = map (λ text. text.now) KEYWORDS
 abbrev pub refused_keywords : List (List ℕ)
 refused_keywords = map (λ text. text.now) REFUSED_KEYWORDS
 
+-- the names of types that aren't in the profile
+abbrev pub refused_names : List (List ℕ)
+refused_names = map (λ text. text.now) REFUSED_NAMES
+
 -- operators and punctuation
 abbrev pub signs : List (List ℕ)
 signs = map (λ text. text.now) SIGNS
+
+-- from which place of the signs on and up to which those stand that begin with this byte
+abbrev pub sign_group : ℕ → ℕ × ℕ
+sign_group first = if nat_lt first 33 || nat_lt 126 first then (0, 0) else slice_index_or SIGN_GROUPS (first - 33) (0, 0)
+
+-- the names of builtin functions, without their `@`
+abbrev pub builtins : List (List ℕ)
+builtins = map (λ text. text.now) BUILTINS
 
 -- these bytes stand in the table
 abbrev pub IsIn : List (List ℕ) → List ℕ → Type 0
 IsIn table bytes = (k : ℕ) × (slice_get table k ≡ Some bytes)
 
+-- the place of these bytes in the table
+abbrev pub place_in : List (List ℕ) → List ℕ → Option ℕ
+place_in table bytes = position (λ text. bytes_eq text bytes) table
+
+abbrev pub is_in : List (List ℕ) → List ℕ → Bool
+is_in table bytes = is_some (place_in table bytes)
+
 -- no text of the table of more than n bytes is a front of these bytes
 abbrev pub NoLongerFront : List (List ℕ) → List ℕ → ℕ → Type 0
 NoLongerFront table rest n = (m : ℕ) → n < m → m ≤ length rest → ¬ IsIn table (take m rest)
+
+-- how many bytes the longest text of the table has that stands here; 0 where none does
+abbrev pub longest_len : List (List ℕ) → List ℕ → ℕ
+longest_len table rest = fold (λ longest text. if starts_with nat_eq rest text then max longest (length text) else longest) 0 table

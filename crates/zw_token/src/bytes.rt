@@ -1,7 +1,8 @@
 // The kinds of bytes, and how many bytes of one kind a text begins with.
-ghost use Rattle.std.specs.Prelude.{◌≡◌};
+ghost use Rattle.std.specs.Prelude.{◌≡◌, ◌<◌, ◌≤◌, length, IsTrue};
 ghost use Rattle.std.specs.List.{prefix_len};
-ghost use Rattle.zw_token.specs.Bytes.{is_white, is_name_start, is_name_byte, starts_word, starts_number, starts_fraction};
+ghost use Rattle.zw_token.specs.Bytes.{is_white, is_name_start, is_name_byte, starts_word, starts_number, starts_fraction, starts_comment, starts_blank, blank_len, line_len};
+ghost use Rattle.zw_token.specs.Front.{word_len};
 
 /// Blank, tab, line feed or carriage return.
 #[tactic(auto, unfolding(crate::specs::Bytes::is_white))]
@@ -57,16 +58,47 @@ pub fn starts_fraction(rest: &[u8]) -> bool
     }
 }
 
-/// How many bytes of white space stand here.
-pub fn white_len(rest: &[u8]) -> usize
-    ensures { result ≡ prefix_len is_white rest.now }
-{
-    rest.iter().take_while(|byte| is_white(**byte)).count()
-}
-
 /// How many letters, digits and `_` stand here.
 pub fn word_len(rest: &[u8]) -> usize
-    ensures { result ≡ prefix_len is_name_byte rest.now }
+    ensures value { result ≡ word_len rest.now }
+    ensures within { result ≤ length rest.now }
 {
     rest.iter().take_while(|byte| is_name_byte(**byte)).count()
+}
+
+/// How many bytes stand here up to the end of the line.
+pub fn line_len(rest: &[u8]) -> usize
+    ensures value { result ≡ line_len rest.now }
+    ensures within { result ≤ length rest.now }
+{
+    rest.iter().take_while(|byte| **byte != b'\n').count()
+}
+
+/// Whether a comment begins here.
+pub fn starts_comment(rest: &[u8]) -> bool
+    ensures { result ≡ starts_comment rest.now }
+{
+    rest.starts_with(b"//")
+}
+
+/// Whether white space or a comment begins here.
+pub fn starts_blank(rest: &[u8]) -> bool
+    ensures { result ≡ starts_blank rest.now }
+{
+    match rest {
+        [byte, ..] => is_white(*byte) || starts_comment(rest),
+        [] => false,
+    }
+}
+
+/// How many bytes of white space or of a comment begin here: one byte of white space, or a comment.
+pub fn blank_len(rest: &[u8]) -> usize
+    ensures value { result ≡ blank_len rest.now }
+    ensures within { result ≤ length rest.now }
+    ensures some { IsTrue (starts_blank rest.now) → 0 < result }
+{
+    match rest {
+        [byte, ..] => { if is_white(*byte) { 1 } else { line_len(rest) } }
+        [] => 0,
+    }
 }

@@ -1,18 +1,28 @@
 //! The tokens of a Zig file. The crate knows nothing of the grammar.
 #![tactic(auto)]
 
+mod bad;
 mod bytes;
+mod first;
+mod laws;
 mod lexer;
+mod literals;
 mod names;
 mod numbers;
 mod tables;
 mod token;
+mod values;
 
-pub use lexer::{one_list, tokens};
+pub use laws::{
+    decimals_are_numbers, digits_alone, names_are_words, one_list, one_stop, signs_are_longest,
+    stop_or_list, texts_without_escapes, tokens_in_order,
+};
+pub use lexer::tokens;
 pub use names::{is_primitive_name, is_refused_name};
 pub use numbers::{is_decimal, number_value};
-pub use tables::{KEYWORDS, SIGNS};
-pub use token::{Token, TokenKind};
+pub use tables::{BUILTINS, KEYWORDS, SIGNS};
+pub use token::{TextError, Token, TokenKind};
+pub use values::{char_value, text_value};
 
 #[cfg(test)]
 mod tests;

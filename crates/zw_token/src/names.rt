@@ -3,7 +3,7 @@ ghost use Rattle.std.specs.Prelude.{◌≡◌, ◌↔◌, IsTrue};
 ghost use Rattle.zw_token.specs.Names.{is_sized_name, IsPrimitiveName, IsRefusedName};
 
 use crate::numbers::is_decimal;
-use crate::tables::has;
+use crate::tables::{REFUSED_NAMES, has};
 
 // The names of primitive types and values, beside `u8`, `i32` and their like (Zig Language Reference 0.13.0,
 // Primitive Types and Primitive Values).
@@ -20,27 +20,6 @@ const PRIMITIVE_NAMES: [&str; 12] = [
     "false",
     "null",
     "undefined",
-];
-
-// The names of primitive types of Zig that aren't in the profile.
-const REFUSED_NAMES: [&str; 17] = [
-    "f16",
-    "f32",
-    "f64",
-    "f80",
-    "f128",
-    "comptime_float",
-    "anyopaque",
-    "c_char",
-    "c_short",
-    "c_ushort",
-    "c_int",
-    "c_uint",
-    "c_long",
-    "c_ulong",
-    "c_longlong",
-    "c_ulonglong",
-    "c_longdouble",
 ];
 
 // Whether this is `u` or `i` and a decimal number.

@@ -1,6 +1,7 @@
 // The lists of keywords and signs, apart so that each stands once: the definitions cite them too.
-ghost use Rattle.std.specs.Prelude.{◌≡◌, ◌↔◌, IsTrue, IfSome, IfNone, Some, slice_get};
-ghost use Rattle.zw_token.specs.Tables.{texts, IsIn};
+ghost use Rattle.std.specs.Prelude.{◌≡◌, ◌↔◌, ◌<◌, ◌≤◌, ℕ, IsTrue, IfSome, IfNone, Some, slice_get, length, take, position, slice_index};
+ghost use Rattle.std.specs.Str.{bytes_eq};
+ghost use Rattle.zw_token.specs.Tables.{texts, signs, sign_group, place_in, is_in, IsIn, NoLongerFront};
 
 /// The keywords, in alphabetical order (Zig Language Reference 0.13.0, Keyword Reference).
 pub const KEYWORDS: [&str; 32] = [
@@ -68,22 +69,270 @@ pub const SIGNS: [&str; 62] = [
     "..", "...", ".*", ".?", ",", ";", ":", "?", "(", ")", "[", "]", "{", "}",
 ];
 
+/// The builtin functions, without their `@` (Zig Language Reference 0.13.0, Builtin Functions; of these the profile has
+/// only some).
+pub const BUILTINS: [&str; 39] = [
+    "as",
+    "import",
+    "This",
+    "TypeOf",
+    "sizeOf",
+    "alignOf",
+    "bitSizeOf",
+    "intCast",
+    "truncate",
+    "bitCast",
+    "intFromEnum",
+    "intFromBool",
+    "enumFromInt",
+    "divTrunc",
+    "divFloor",
+    "divExact",
+    "rem",
+    "mod",
+    "shlExact",
+    "shrExact",
+    "clz",
+    "ctz",
+    "popCount",
+    "byteSwap",
+    "bitReverse",
+    "abs",
+    "min",
+    "max",
+    "hasDecl",
+    "hasField",
+    "field",
+    "tagName",
+    "errorName",
+    "unionInit",
+    "compileError",
+    "setEvalBranchQuota",
+    "panic",
+    "memcpy",
+    "memset",
+];
+
+// The names of primitive types of Zig that aren't in the profile.
+pub(crate) const REFUSED_NAMES: [&str; 17] = [
+    "f16",
+    "f32",
+    "f64",
+    "f80",
+    "f128",
+    "comptime_float",
+    "anyopaque",
+    "c_char",
+    "c_short",
+    "c_ushort",
+    "c_int",
+    "c_uint",
+    "c_long",
+    "c_ulong",
+    "c_longlong",
+    "c_ulonglong",
+    "c_longdouble",
+];
+
+// For each byte from `!` (33) to `~` (126), from which place of `SIGNS` on and up to which the signs stand that begin with it.
+const SIGN_GROUPS: [(u8, u8); 94] = [
+    (0, 2),
+    (0, 0),
+    (0, 0),
+    (0, 0),
+    (29, 31),
+    (5, 7),
+    (0, 0),
+    (56, 57),
+    (57, 58),
+    (7, 14),
+    (14, 21),
+    (52, 53),
+    (21, 27),
+    (47, 52),
+    (27, 29),
+    (0, 0),
+    (0, 0),
+    (0, 0),
+    (0, 0),
+    (0, 0),
+    (0, 0),
+    (0, 0),
+    (0, 0),
+    (0, 0),
+    (0, 0),
+    (54, 55),
+    (53, 54),
+    (34, 40),
+    (44, 47),
+    (40, 44),
+    (55, 56),
+    (0, 0),
+    (0, 0),
+    (0, 0),
+    (0, 0),
+    (0, 0),
+    (0, 0),
+    (0, 0),
+    (0, 0),
+    (0, 0),
+    (0, 0),
+    (0, 0),
+    (0, 0),
+    (0, 0),
+    (0, 0),
+    (0, 0),
+    (0, 0),
+    (0, 0),
+    (0, 0),
+    (0, 0),
+    (0, 0),
+    (0, 0),
+    (0, 0),
+    (0, 0),
+    (0, 0),
+    (0, 0),
+    (0, 0),
+    (0, 0),
+    (58, 59),
+    (0, 0),
+    (59, 60),
+    (31, 33),
+    (0, 0),
+    (0, 0),
+    (0, 0),
+    (0, 0),
+    (0, 0),
+    (0, 0),
+    (0, 0),
+    (0, 0),
+    (0, 0),
+    (0, 0),
+    (0, 0),
+    (0, 0),
+    (0, 0),
+    (0, 0),
+    (0, 0),
+    (0, 0),
+    (0, 0),
+    (0, 0),
+    (0, 0),
+    (0, 0),
+    (0, 0),
+    (0, 0),
+    (0, 0),
+    (0, 0),
+    (0, 0),
+    (0, 0),
+    (0, 0),
+    (0, 0),
+    (60, 61),
+    (2, 5),
+    (61, 62),
+    (33, 34),
+];
+
+// What the table says of this byte.
+fn group_at(first: u8) -> (usize, usize)
+    ensures from { result.0 ≡ (sign_group first).0 }
+    ensures to { result.1 ≡ (sign_group first).1 }
+{
+    if first < 33 || 126 < first {
+        return (0, 0);
+    }
+    let (from, to) = SIGN_GROUPS[first as usize - 33];
+    (from as usize, to as usize)
+}
+
+// From which place of `SIGNS` on and up to which the signs stand that begin with this byte.
+fn sign_group(first: u8) -> (usize, usize)
+    ensures from { result.0 ≡ (sign_group first).0 }
+    ensures to { result.1 ≡ (sign_group first).1 }
+    ensures ordered { result.0 ≤ result.1 }
+    ensures within { result.1 ≤ 62 }
+{
+    group_at(first)
+}
+
+// The first text of the table that has these bytes.
+fn position_of(table: &[&str], word: &[u8]) -> Option<usize>
+    ensures value { result ≡ position (λ text. bytes_eq text.now word.now) table.now }
+    ensures within { IfSome result (λ k. k < length table.now) }
+{
+    table.iter().position(|text| text.as_bytes() == word)
+}
+
 // The place of these bytes in the table.
 pub(crate) fn place_of(table: &[&str], word: &[u8]) -> Option<usize>
-    ensures found { IfSome result (λ k. slice_get (texts table.now) k ≡ Some word.now) }
-    ensures none { IfNone result (IsIn (texts table.now) word.now → ⊥) }
+    ensures value { result ≡ place_in (texts table.now) word.now }
+    ensures within { IfSome result (λ k. k < length table.now) }
 {
-    for (k, text) in table.iter().enumerate() {
-        if text.as_bytes() == word {
-            return Some(k);
-        }
-    }
-    None
+    position_of(table, word)
 }
 
 // Whether these bytes stand in the table.
 pub(crate) fn has(table: &[&str], word: &[u8]) -> bool
-    ensures { IsTrue result ↔ IsIn (texts table.now) word.now }
+    ensures value { result ≡ is_in (texts table.now) word.now }
+    ensures stands { IsTrue result ↔ IsIn (texts table.now) word.now }
 {
     place_of(table, word).is_some()
+}
+
+// How many bytes of the text are the bytes of `sign`: all or none.
+fn front_len(rest: &[u8], sign: &str) -> usize
+    ensures within { result ≤ length rest.now }
+    ensures found { 0 < result → take result rest.now ≡ sign.now }
+    ensures none { (m : ℕ) → result < m → m ≤ length rest.now → sign.now ≡ take m rest.now → ⊥ }
+{
+    if rest.starts_with(sign.as_bytes()) {
+        sign.len()
+    } else {
+        0
+    }
+}
+
+// The place and the length of the longest text of the table that the bytes begin with.
+pub(crate) fn longest_front(table: &[&str], rest: &[u8]) -> Option<(usize, usize)>
+    ensures within { IfSome result (λ front. front.1 ≤ length rest.now) }
+    ensures found { IfSome result (λ front.
+        slice_get (texts table.now) front.0 ≡ Some (take front.1 rest.now)) }
+    ensures longest { IfSome result (λ front. NoLongerFront (texts table.now) rest.now front.1) }
+    ensures none { IfNone result (NoLongerFront (texts table.now) rest.now 0) }
+{
+    let mut place = 0;
+    let mut len = 0;
+    for (k, sign) in table.iter().enumerate() {
+        let front = front_len(rest, sign);
+        if front > len {
+            place = k;
+            len = front;
+        }
+    }
+    if len == 0 { None } else { Some((place, len)) }
+}
+
+// The longest sign that the bytes begin with, of which this is the first: only the signs with that first byte are tried.
+fn longest_from(first: u8, rest: &[u8]) -> Option<(usize, usize)>
+    requires { first ≡ slice_index rest.now 0 }
+    ensures within { IfSome result (λ front. front.1 ≤ length rest.now) }
+    ensures found { IfSome result (λ front. slice_get signs front.0 ≡ Some (take front.1 rest.now)) }
+    ensures longest { IfSome result (λ front. NoLongerFront signs rest.now front.1) }
+    ensures none { IfNone result (NoLongerFront signs rest.now 0) }
+{
+    let (from, to) = sign_group(first);
+    let (place, len) = longest_front(&SIGNS[from..to], rest)?;
+    Some((from + place, len))
+}
+
+// The place and the length of the longest sign that the bytes begin with.
+pub(crate) fn longest_sign(rest: &[u8]) -> Option<(usize, usize)>
+    ensures within { IfSome result (λ front. front.1 ≤ length rest.now) }
+    ensures found { IfSome result (λ front. slice_get signs front.0 ≡ Some (take front.1 rest.now)) }
+    ensures longest { IfSome result (λ front. NoLongerFront signs rest.now front.1) }
+    ensures none { IfNone result (NoLongerFront signs rest.now 0) }
+{
+    match rest {
+        [first, ..] => longest_from(*first, rest),
+        [] => None,
+    }
 }

@@ -1,4 +1,6 @@
-// A token: its kind, and where it stands in its text.
+// A token: its kind, and where it stands in its text; and what can be wrong where no token stands.
+ghost use Rattle.std.specs.Prelude.{◌≡◌};
+ghost use Rattle.zw_token.specs.ErrorNumbers.{number_of_error};
 
 /// The kind of a token (Zig Language Reference 0.13.0, Grammar). The number of a keyword is its place from 0 in
 /// `KEYWORDS`, that of a sign its place in `SIGNS`.
@@ -6,17 +8,18 @@
 pub enum TokenKind {
     /// A letter or `_`, then letters, digits and `_`, if it is no keyword.
     Name,
-    /// `@"` and a text up to `"`: a name with any bytes.
+    /// `@"`, items and `"`: a name with any bytes.
     Quoted,
-    /// `@` and a name.
+    /// `@` and a name of `BUILTINS`.
     Builtin,
-    /// A decimal number: `0`, or digits of which the first isn't `0`.
+    /// A number of base 10, 16 (`0x`), 8 (`0o`) or 2 (`0b`), with at most one `_` between two digits; a decimal one has no
+    /// leading zero.
     Number,
-    /// A character between `'`.
+    /// A code point or an escape between `'`.
     Character,
-    /// A text between `"`.
+    /// Code points and escapes between `"`.
     Text,
-    /// `\\` and the bytes up to the end of the line.
+    /// `\\` and the bytes up to the end of the line, without a carriage return directly before its line feed.
     LineText,
     Keyword(u8),
     Sign(u8),
@@ -61,4 +64,31 @@ pub struct Token {
     pub kind: TokenKind,
     pub start: u32,
     pub end: u32,
+}
+
+/// What is wrong at a place of a text that has no tokens. The numbers are this project's own.
+#[derive(Clone, Copy, Debug, PartialEq, Eq)]
+pub enum TextError {
+    /// A byte that no text may have, or that is no UTF-8.
+    BadByte,
+    /// No token begins here.
+    BadToken,
+    /// A number or a literal is malformed.
+    BadLiteral,
+    /// What stands here is no part of the profile.
+    NotInProfile,
+}
+
+impl TextError {
+    /// The number of the error.
+    pub fn number(self) -> u16
+        ensures { result ≡ number_of_error self }
+    {
+        match self {
+            TextError::BadByte => 3,
+            TextError::BadToken => 4,
+            TextError::BadLiteral => 5,
+            TextError::NotInProfile => 7,
+        }
+    }
 }

@@ -6,9 +6,11 @@ use Rattle.std.proofs.lemmas.Bool.{cases_eq}
 use Rattle.std.proofs.lemmas.List.{reverse-append, append-nil, drop_more, take_more, get_or-set_same, get_or-set_other, get_or-replicate, length-replicate, length-set}
 use Rattle.std.proofs.lemmas.Option.{slice_get_within, get_or_from_slice_get}
 use Rattle.std.proofs.Math.Seq.{drop-nil, drop-length}
-use Rattle.zw_wasm.specs.Computed.{frame_of, label_of, FrameEnds, IsEnd, AreEndsFrom, AreArms, work_at, work_of}
+use Rattle.zw_wasm.proofs.StructuredCode.{plain-parts}
+use Rattle.zw_wasm.specs.Computed.{Owner, frame_of, label_of, FrameEnds, IsEnd, AreEndsFrom, AreArms, work_at, work_of}
 use Rattle.zw_wasm.specs.declared.module.Instr.{Instr}
-use Rattle.zw_wasm.specs.declared.module.Instr.TheVariants.{If, Else, End}
+use Rattle.zw_wasm.specs.declared.module.Instr.TheVariants.{Loop, If, Else, End}
+use Rattle.zw_wasm.specs.declared.module.Instr.TheVariants as instr
 use Rattle.zw_wasm.specs.declared.module.ValType.{ValType}
 use Rattle.zw_wasm.specs.declared.reduce.ends.Arms.{Arms}
 use Rattle.zw_wasm.specs.declared.reduce.ends.SequenceEnd.{SequenceEnd}
@@ -16,7 +18,7 @@ use Rattle.zw_wasm.specs.declared.reduce.frame.Frame.{Frame}
 use Rattle.zw_wasm.specs.declared.reduce.frame.Label.{Label}
 use Rattle.zw_wasm.specs.Reduction as reduction
 use Rattle.zw_wasm.specs.Reduction.{Returns, stands_in, stands_next}
-use Rattle.zw_wasm.specs.Structure.{Num, Ends, Plain, Choice, Code, Part, code_of, num_of, parts, begun_with, first_part, other_parts, choice_of, choice_of_one, choice_of_two, zeros}
+use Rattle.zw_wasm.specs.Structure.{Num, Ends, Plain, Choice, Block, Repeat, Code, Part, is_plain, code_of, num_of, parts, begun_with, first_part, other_parts, choice_of, choice_of_one, choice_of_two, zeros}
 
 -- one more item at the end of the list is the first
 pub reverse_push : {A : Type 0} (xs : List A) (x : A) → reverse (xs ++ x ∷ []) ≡ x ∷ reverse xs
@@ -35,12 +37,14 @@ locals_more args old new runs i d inside before pushed =
     pushed ∙ ap (λ l. l ++ more) before ∙ append_assoc args (zeros (take i runs)) more
     ∙ ap (λ z. args ++ z) (sym (ap zeros (take_more runs i d inside) ∙ zeros_push (take i runs) (get_or runs i d)))
 
--- an instruction that neither begins nor ends a sequence stands before the first part of what follows
-pub parts-plain : (i : Instr) (is : List Instr) → ((ty : Option ValType) → i ≢ If ty) → i ≢ Else → i ≢ End → parts (i ∷ is) ≡ begun_with (λ rest. Plain i rest) (parts is)
-parts-plain (If ty) is not_if not_else not_end = absurd (not_if ty refl)
-parts-plain Else is not_if not_else not_end = absurd (not_else refl)
-parts-plain End is not_if not_else not_end = absurd (not_end refl)
-parts-plain i is not_if not_else not_end = refl
+-- an instruction that neither begins nor ends a sequence is plain
+pub is-plain : (i : Instr) → ((ty : Option ValType) → i ≢ instr.Block ty) → ((ty : Option ValType) → i ≢ Loop ty) → ((ty : Option ValType) → i ≢ If ty) → i ≢ Else → i ≢ End → is_plain i ≡ true
+is-plain (instr.Block ty) not_block not_loop not_if not_else not_end = absurd (not_block ty refl)
+is-plain (Loop ty) not_block not_loop not_if not_else not_end = absurd (not_loop ty refl)
+is-plain (If ty) not_block not_loop not_if not_else not_end = absurd (not_if ty refl)
+is-plain Else not_block not_loop not_if not_else not_end = absurd (not_else refl)
+is-plain End not_block not_loop not_if not_else not_end = absurd (not_end refl)
+is-plain i not_block not_loop not_if not_else not_end = refl
 
 choice-two : (ty : Option ValType) (ps qs rs : List Part) → (first_part ps).by_else ≡ true → qs ≡ other_parts ps → rs ≡ other_parts qs → choice_of ty ps ≡ begun_with (λ rest. Choice ty (first_part ps).code (first_part qs).code rest) rs
 choice-two ty ps qs rs by_else second third =
@@ -78,9 +82,22 @@ end-behind instrs at next e before le begun end = record {
   others = end.others ∙ sym (ap other_parts begun);
 }
 
-pub end-plain : (instrs : List Instr) (at : ℕ) (i : Instr) (e : SequenceEnd) → drop at instrs ≡ i ∷ drop (at + 1) instrs → ((ty : Option ValType) → i ≢ If ty) → i ≢ Else → i ≢ End → IsEnd instrs (at + 1) e → IsEnd instrs at e
-end-plain instrs at i e here not_if not_else not_end end =
-    end-behind instrs at (at + 1) e (λ rest. Plain i rest) (omega arith) (ap parts here ∙ parts-plain i (drop (at + 1) instrs) not_if not_else not_end) end
+pub end-plain : (instrs : List Instr) (at : ℕ) (i : Instr) (e : SequenceEnd) → drop at instrs ≡ i ∷ drop (at + 1) instrs → is_plain i ≡ true → IsEnd instrs (at + 1) e → IsEnd instrs at e
+end-plain instrs at i e here plain end =
+    end-behind instrs at (at + 1) e (λ rest. Plain i rest) (omega arith) (ap parts here ∙ plain-parts i (drop (at + 1) instrs) plain) end
+
+-- behind the end of a block, or of a loop, its outer sequence goes on
+pub end-block : (instrs : List Instr) (at : ℕ) (ty : Option ValType) (inner e : SequenceEnd) → drop at instrs ≡ instr.Block ty ∷ drop (at + 1) instrs → IsEnd instrs (at + 1) inner → IsEnd instrs inner.next e → IsEnd instrs at e
+end-block instrs at ty inner e here first end =
+    let is = drop (at + 1) instrs in
+    let before : Code → Code = λ rest. Block ty (code_of is) rest in
+    end-behind instrs at inner.next e before (omega (arith, first.behind)) (ap parts here ∙ ap (begun_with before) (sym first.others)) end
+
+pub end-loop : (instrs : List Instr) (at : ℕ) (ty : Option ValType) (inner e : SequenceEnd) → drop at instrs ≡ Loop ty ∷ drop (at + 1) instrs → IsEnd instrs (at + 1) inner → IsEnd instrs inner.next e → IsEnd instrs at e
+end-loop instrs at ty inner e here first end =
+    let is = drop (at + 1) instrs in
+    let before : Code → Code = λ rest. Repeat ty (code_of is) rest in
+    end-behind instrs at inner.next e before (omega (arith, first.behind)) (ap parts here ∙ ap (begun_with before) (sym first.others)) end
 
 pub end-choice : (instrs : List Instr) (at : ℕ) (arms : Arms) (ty : Option ValType) (e : SequenceEnd) → drop at instrs ≡ If ty ∷ drop (at + 1) instrs → AreArms instrs at arms → IsEnd instrs arms.follows e → IsEnd instrs at e
 end-choice instrs at arms ty e here are end =
@@ -130,13 +147,13 @@ code_of-ended (i ∷ is) (suc at) e = code_of-ended is at e
 
 -- the same stands next in both frames, of whatever function they are
 pub record SameStands (instrs : List Instr) (old new : Frame) : Type 0 where
-  pub by : (f : ℕ) → stands_in (frame_of f instrs old) ≡ stands_in (frame_of f instrs new)
+  pub by : (f : Owner) → stands_in (frame_of f instrs old) ≡ stands_in (frame_of f instrs new)
 
 -- what stands next where a sequence ends, with these labels
-stands_ended : (instrs : List Instr) (x : Frame) (f : ℕ) (labels : List reduction.Label) → work_at instrs x.at ≡ None → map (label_of instrs) (reverse x.labels) ≡ labels → stands_in (frame_of f instrs x) ≡ stands_next f x.locals Ends (reverse x.operands) labels
+stands_ended : (instrs : List Instr) (x : Frame) (f : Owner) (labels : List reduction.Label) → work_at instrs x.at ≡ None → map (label_of instrs) (reverse x.labels) ≡ labels → stands_in (frame_of f instrs x) ≡ stands_next (frame_of f instrs x) Ends (reverse x.operands) labels
 stands_ended instrs x f labels ended same =
-    ap (λ code. stands_next f x.locals code (reverse x.operands) (map (label_of instrs) (reverse x.labels))) (code_of-ended instrs x.at ended)
-    ∙ ap (λ ls. stands_next f x.locals Ends (reverse x.operands) ls) same
+    ap (λ code. stands_next (frame_of f instrs x) code (reverse x.operands) (map (label_of instrs) (reverse x.labels))) (code_of-ended instrs x.at ended)
+    ∙ ap (λ ls. stands_next (frame_of f instrs x) Ends (reverse x.operands) ls) same
 
 -- a frame ends where a sequence ends under no label
 pub frame_ends : (instrs : List Instr) (old x new : Frame) → SameStands instrs old x → work_at instrs x.at ≡ None → x.labels ≡ [] → new.operands ≡ x.operands → FrameEnds instrs old new
@@ -156,7 +173,7 @@ label_left instrs old x ls l new stands ended last same = record {
       ap (λ ks. map (label_of instrs) (reverse ks)) last ∙ ap (λ ks. map (label_of instrs) ks) (reverse_push ls l) in
       stands.by f
       ∙ stands_ended instrs x f (label_of instrs l ∷ outer) ended labels
-      ∙ ap (λ os. stands_next f x.locals (code_of (drop l.follows instrs)) os outer) (sym (reverse-append l.below x.operands))
+      ∙ ap (λ os. stands_next (frame_of f instrs x) (code_of (drop l.follows instrs)) os outer) (sym (reverse-append l.below x.operands))
       ∙ ap (λ y. stands_in (frame_of f instrs y)) (sym same);
 }
 
@@ -165,18 +182,6 @@ work_of-some None i e = absurd (cc)
 work_of-some (Some Else) i e = absurd (cc)
 work_of-some (Some End) i e = absurd (cc)
 work_of-some (Some j) i e = e
-
-work_of-not_else : (o : Option Instr) (i : Instr) → work_of o ≡ Some i → i ≢ Else
-work_of-not_else None i e same = absurd (cc)
-work_of-not_else (Some Else) i e same = absurd (cc)
-work_of-not_else (Some End) i e same = absurd (cc)
-work_of-not_else (Some j) i e same = absurd (cc)
-
-work_of-not_end : (o : Option Instr) (i : Instr) → work_of o ≡ Some i → i ≢ End
-work_of-not_end None i e same = absurd (cc)
-work_of-not_end (Some Else) i e same = absurd (cc)
-work_of-not_end (Some End) i e same = absurd (cc)
-work_of-not_end (Some j) i e same = absurd (cc)
 
 -- the instruction that stands at a place is in the code
 pub work_at-stands : (instrs : List Instr) (at : ℕ) (i : Instr) → work_at instrs at ≡ Some i → slice_get instrs at ≡ Some i
@@ -194,8 +199,6 @@ work_at-begins instrs at i e =
 pub code_of-choice : (instrs : List Instr) (at : ℕ) (ty : Option ValType) (arms : Arms) → work_at instrs at ≡ Some (If ty) → AreArms instrs at arms → code_of (drop at instrs) ≡ Choice ty (code_of (drop arms.then_code instrs)) (code_of (drop arms.else_code instrs)) (code_of (drop arms.follows instrs))
 code_of-choice instrs at ty arms e are = ap (λ ps. (first_part ps).code) (ap parts (work_at-begins instrs at (If ty) e) ∙ are.choice ty)
 
-pub code_of-plain : (instrs : List Instr) (at : ℕ) (i : Instr) → work_at instrs at ≡ Some i → ((ty : Option ValType) → i ≢ If ty) → code_of (drop at instrs) ≡ Plain i (code_of (drop (at + 1) instrs))
-code_of-plain instrs at i e not_if =
-    ap (λ ps. (first_part ps).code)
-    (ap parts (work_at-begins instrs at i e)
-    ∙ parts-plain i (drop (at + 1) instrs) not_if (work_of-not_else (slice_get instrs at) i e) (work_of-not_end (slice_get instrs at) i e))
+pub code_of-plain : (instrs : List Instr) (at : ℕ) (i : Instr) → work_at instrs at ≡ Some i → is_plain i ≡ true → code_of (drop at instrs) ≡ Plain i (code_of (drop (at + 1) instrs))
+code_of-plain instrs at i e plain =
+    ap (λ ps. (first_part ps).code) (ap parts (work_at-begins instrs at i e) ∙ plain-parts i (drop (at + 1) instrs) plain)

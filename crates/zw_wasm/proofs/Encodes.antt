@@ -16,15 +16,13 @@ use Rattle.zw_wasm.specs.declared.module.DataSegment.{DataSegment}
 use Rattle.zw_wasm.specs.declared.module.CodeBody.{CodeBody}
 use Rattle.zw_wasm.specs.declared.module.Instr.{Instr}
 use Rattle.zw_wasm.specs.declared.module.Module.{Module}
-use Rattle.zw_wasm.specs.declared.encode.instructions.Immediate.{Immediate}
-use Rattle.zw_wasm.specs.declared.encode.instructions.Immediate.TheVariants.{Nothing, BlockType, Index, Signed32}
-use Rattle.zw_wasm.specs.Leb.{unsigned}
-use Rattle.zw_wasm.specs.Opcodes.{opcode, immediate_of}
+use Rattle.zw_leb.specs.Leb.{unsigned}
+use Rattle.zw_wasm.specs.Opcodes.{Immediate, Nothing, BlockType, Index, Labels, IndexAndZero, Zero, Memory, Signed32, Signed64, opcode, immediate_of}
 use Rattle.zw_wasm.specs.Spelling.{vector, byte_vector, value_type, result_type, function_type, bounds, limits, table_type, mutability, block_type, immediate, instruction, expression, function_import, global, export, element, local_run, body, code, data_segment, section, list_section, start_section, header, front_sections, back_sections, spelling}
 use Rattle.zw_wasm.specs.ModuleBytes.{ModuleBytes, ◌⌢◌, IsHeader, InTurn, IsU32, EachInTurn, IsVector, IsByteVector, IsName, Sized, IsValueType, IsResultType, IsFunctionType, AreBounds, AreLimits, IsTableType, IsMutability, IsBlockType, IsImmediate, IsInstruction, IsExpression, EndsOnce, IsFunctionImport, IsGlobal, IsExport, IsElement, IsLocalRun, IsCode, IsDataSegment, IsSection, IsListSection, IsStartSection, AreCustomSections, Behind, AreFrontSections, AreBackSections}
 use Rattle.zw_wasm.specs.Fits.{Fits, Fits32, Countable, FitsVector, FitsSection, FitsValueType, FitsLimits, FitsImmediate, FitsInstruction, FitsExpression, FitsFunctionType, FitsImport, FitsGlobal, FitsExport, FitsElement, FitsRun, FitsCode, FitsData, FitsFront, FitsBack}
 use Rattle.zw_wasm.specs.WellFormed.{IsWellFormed, HasNames, IsWellFormedExport, IsWellFormedCode}
-use Rattle.zw_wasm.proofs.LebSpellings.{unsigned_spells, signed_spells, length-unsigned}
+use Rattle.zw_leb.proofs.LebSpellings.{unsigned_spells, signed_spells, signed_spells_64, length-unsigned}
 
 -- ---- lists and sizes
 
@@ -123,7 +121,12 @@ immediate_spells : (a : Immediate) → FitsImmediate a → IsImmediate a (immedi
 immediate_spells Nothing fits = refl
 immediate_spells (BlockType result) fits = block_type_spells result
 immediate_spells (Index index) fits = unsigned_spells index fits
+immediate_spells (Labels labels default) fits = in_turn (vector unsigned labels) (unsigned default) (vector_spells numbers labels (asks_nothing labels) fits.0) (unsigned_spells default fits.1)
+immediate_spells (IndexAndZero index) fits = in_turn (unsigned index) (0x00 ∷ []) (unsigned_spells index fits) refl
+immediate_spells Zero fits = refl
+immediate_spells (Memory at) fits = in_turn (unsigned at.align) (unsigned at.offset) (unsigned_spells at.align fits.0) (unsigned_spells at.offset fits.1)
 immediate_spells (Signed32 z) fits = signed_spells z fits
+immediate_spells (Signed64 z) fits = signed_spells_64 z fits
 
 instruction_spells : (i : Instr) → FitsInstruction i → IsInstruction i (instruction i)
 instruction_spells i fits = in_turn (opcode i ∷ []) (immediate (immediate_of i)) refl (immediate_spells (immediate_of i) fits)

@@ -1,24 +1,32 @@
 -- Executing: what single instructions do, in the words of the definition.
-use Rattle.std.proofs.Common.{◌≡◌, ◌≢◌, ℕ, ◌+◌, true, false, Bool, cond, eqb, List, [], ◌∷◌, ◌++◌, drop, map, reverse, Option, Some, Result, Ok, Err, refl, sym, ap, ◌∙◌}
+use Rattle.std.proofs.Common.{◌≡◌, ◌≢◌, ℕ, ◌+◌, true, false, Bool, cond, eqb, List, [], ◌∷◌, ◌++◌, drop, map, reverse, length, ◌<◌, Option, Some, None, Result, Ok, Err, refl, sym, ap, subst, ◌∙◌}
 use Rattle.std.specs.Prelude.{slice_get, nat_lt, IfOk}
 use mir.Val.{bool_byte}
+use Rattle.std.proofs.lemmas.Bool.{ltb-true}
 use Rattle.std.proofs.lemmas.List.{reverse-append}
 use Rattle.std.specs.declared.alloc.AllocError.{AllocError}
 use Rattle.zw_wasm.proofs.Computing.{reverse_push, code_of-choice, code_of-plain}
-use Rattle.zw_wasm.specs.Computed.{Unseen, config_of, frame_of, label_of, world_of, Acts, ActsOnOperands, AreArms, IsStep, NoI32, work_at}
+use Rattle.zw_wasm.specs.Computed.{Owner, Unseen, config_of, frame_of, label_of, world_of, Acts, ActsOnI32, ActsOnOperands, AreArms, CallsImport, IsStep, NoI32, NoTwoI32, followed_of, instr_of, work_at}
 use Rattle.zw_wasm.specs.declared.module.Instr.{Instr}
 use Rattle.zw_wasm.specs.declared.module.Instr.TheVariants.{If, LocalGet, GlobalGet}
+use Rattle.zw_wasm.specs.declared.module.Instr.TheVariants as instr
+use Rattle.zw_wasm.specs.declared.module.BinaryOperator.TheVariants.{Add, Sub}
+use Rattle.zw_wasm.specs.declared.module.Comparison.TheVariants.{LtU}
 use Rattle.zw_wasm.specs.declared.module.Module.{Module}
 use Rattle.zw_wasm.specs.declared.module.ValType.{ValType}
+use Rattle.zw_wasm.specs.declared.module.ValType.TheVariants as ty
 use Rattle.zw_wasm.specs.declared.reduce.RunState.{RunState}
+use Rattle.zw_wasm.specs.declared.reduce.followed.Followed.{Followed}
+use Rattle.zw_wasm.specs.declared.reduce.followed.Followed.TheVariants as followed
 use Rattle.zw_wasm.specs.declared.reduce.ends.Arms.{Arms}
 use Rattle.zw_wasm.specs.declared.reduce.execute.Effect.{Effect}
 use Rattle.zw_wasm.specs.declared.reduce.execute.Effect.TheVariants as effect
 use Rattle.zw_wasm.specs.declared.reduce.frame.Frame.{Frame}
 use Rattle.zw_wasm.specs.declared.reduce.frame.Label.{Label}
-use Rattle.zw_wasm.specs.Reduction.{Action, Config, World, Goes, Next, act, chosen, i32_lt_u, on_operand, on_two_i32, resolved, step, under_label, with_operand, with_operands}
+use Rattle.zw_wasm.specs.Reduction.{Action, Config, World, Goes, Next, act, chosen, on_operand, on_two, pushed, resolved, step, under_label, with_operand, with_operands}
 use Rattle.zw_wasm.specs.Signature.{View}
-use Rattle.zw_wasm.specs.Structure.{Num, I32, Code, Choice, code_of}
+use Rattle.zw_wasm.specs.Structure.{Num, I32, Code, Choice, code_of, is_plain}
+use Rattle.zw_wasm.specs.Numerics.{bit_of}
 
 -- what holds of the value in one case holds of it in another form
 pub if_ok : {A E : Type 0} (P Q : A → Type 0) (r : Result A E) → ((x : A) → P x → Q x) → IfOk r P → IfOk r Q
@@ -26,19 +34,27 @@ if_ok P Q (Ok x) go h = go x h
 if_ok P Q (Err e) go h = tt
 
 -- an operator on two i32 that are there
-pub acts_on_two : (f : ℕ → ℕ → Num) (x y : ℕ) (v : Num) (old rest new : List Num) (r : Result Effect AllocError) → old ≡ rest ++ (I32 x ∷ I32 y ∷ []) → v ≡ f x y → IfOk r (λ e. ActsOnOperands (with_operand (Some v)) rest e new) → IfOk r (λ e. ActsOnOperands (λ c. on_two_i32 f c.frame.operands c) old e new)
-acts_on_two f x y v old rest new r two value h =
-    if_ok (λ e. ActsOnOperands (with_operand (Some v)) rest e new) (λ e. ActsOnOperands (λ c. on_two_i32 f c.frame.operands c) old e new) r
-    (λ e pushed. record {
+pub acts_on_two : (i : Followed) (go : ℕ → ℕ → Config → Action) (x y : ℕ) (v : Num) (old rest new : List Num) (r : Result Effect AllocError) → ((m : Module) (c : Config) → act m (instr_of i) c ≡ on_two ty.I32 go c.frame.operands c) → old ≡ rest ++ (I32 x ∷ I32 y ∷ []) → ((c : Config) → go x y c ≡ Goes (pushed v c)) → IfOk r (λ e. ActsOnOperands (with_operand (Some v)) rest e new) → IfOk r (λ e. ActsOnI32 i old e new)
+acts_on_two i go x y v old rest new r acts two value h =
+    if_ok (λ e. ActsOnOperands (with_operand (Some v)) rest e new) (λ e. ActsOnI32 i old e new) r
+    (λ e done. λ n. record {
       by = λ m u c.
-          ap (λ os. resolved m u c.world (on_two_i32 f os (with_operands os c))) (ap reverse two ∙ reverse-append rest (I32 x ∷ I32 y ∷ []))
-          ∙ ap (λ n. Next (with_operands (n ∷ reverse rest) c)) (sym value)
-          ∙ pushed.by m u c;
+          ap (λ a. resolved m u c.world a) (acts n (with_operands (reverse old) c))
+          ∙ ap (λ os. resolved m u c.world (on_two ty.I32 go os (with_operands os c))) (ap reverse two ∙ reverse-append rest (I32 x ∷ I32 y ∷ []))
+          ∙ ap (λ a. resolved m u c.world a) (value (with_operands (reverse rest) c))
+          ∙ done.by m u c;
     })
     h
 
+-- and where they aren't there
+pub acts_on_none : (i : Followed) (go : ℕ → ℕ → Config → Action) (old new : List Num) → ((m : Module) (c : Config) → act m (instr_of i) c ≡ on_two ty.I32 go c.frame.operands c) → NoTwoI32 old → ActsOnI32 i old (effect.Traps 0) new
+acts_on_none i go old new acts none = λ n. record {
+  by = λ m u c.
+      ap (λ a. resolved m u c.world a) (acts n (with_operands (reverse old) c) ∙ none.by go (with_operands (reverse old) c));
+}
+
 -- an instruction that acts on the operands alone
-pub acts_on_operands : (m : Module) (i : Instr) (old : Frame) (s : RunState) (new : List Num) (r : Result Effect AllocError) (action : Config → Action) → ((u : Unseen m) (f : ℕ) (instrs : List Instr) → act m i (config_of m u f instrs old s) ≡ action (config_of m u f instrs old s)) → IfOk r (λ e. ActsOnOperands action old.operands e new) → IfOk r (λ e. Acts m i old s e (record old { operands = new }) s)
+pub acts_on_operands : (m : Module) (i : Instr) (old : Frame) (s : RunState) (new : List Num) (r : Result Effect AllocError) (action : Config → Action) → ((u : Unseen m) (f : Owner) (instrs : List Instr) → act m i (config_of m u f instrs old s) ≡ action (config_of m u f instrs old s)) → IfOk r (λ e. ActsOnOperands action old.operands e new) → IfOk r (λ e. Acts m i old s e (record old { operands = new }) s)
 acts_on_operands m i old s new r action same h =
     if_ok (λ e. ActsOnOperands action old.operands e new) (λ e. Acts m i old s e (record old { operands = new }) s) r
     (λ e acts. record {
@@ -65,20 +81,31 @@ pub acts_as : (m : Module) (i j : Instr) (old : Frame) (s : RunState) (new : Lis
 acts_as m i j old s new r action is same h =
     acts_on_operands m i old s new r action (λ u f instrs. ap (λ k. act m k (config_of m u f instrs old s)) is ∙ same (config_of m u f instrs old s)) h
 
+-- an operator on i32
+pub acts_on_i32 : (m : Module) (i j : Followed) (old : Frame) (s : RunState) (new : List Num) (r : Result Effect AllocError) → i ≡ j → IfOk r (λ e. ActsOnI32 j old.operands e new) → IfOk r (λ e. Acts m (instr_of i) old s e (record old { operands = new }) s)
+acts_on_i32 m i j old s new r is h =
+    if_ok (λ e. ActsOnI32 j old.operands e new) (λ e. Acts m (instr_of i) old s e (record old { operands = new }) s) r
+    (λ e acts. record {
+      by = λ u f instrs.
+          ap (λ k. resolved m u.view (world_of m u s) (act m (instr_of k) (config_of m u f instrs old s))) is
+          ∙ (acts m).by m u.view (config_of m u f instrs old s);
+    })
+    h
+
 bool_byte-is : (b : Bool) → bool_byte b ≡ cond b 1 0
 bool_byte-is true = refl
 bool_byte-is false = refl
 
 -- one i32 below another, as a number
-pub less_than : (x y r : ℕ) → r ≡ bool_byte (nat_lt x y) → I32 r ≡ i32_lt_u x y
-less_than x y r e = ap I32 (e ∙ bool_byte-is (nat_lt x y))
+pub less_than : (x y r : ℕ) → r ≡ bool_byte (nat_lt x y) → bit_of (nat_lt x y) ≡ r
+less_than x y r e = sym (e ∙ bool_byte-is (nat_lt x y))
 
 -- the configuration behind an `if`
-abbrev behind : (m : Module) → Unseen m → ℕ → List Instr → Frame → RunState → Code → Config
+abbrev behind : (m : Module) → Unseen m → Owner → List Instr → Frame → RunState → Code → Config
 behind m u f instrs x s rest = record (config_of m u f instrs x s) { frame = record (frame_of f instrs x) { code = rest } }
 
 -- where an `if` stands next, a step takes an operand
-step_chooses : (m : Module) (u : Unseen m) (f : ℕ) (instrs : List Instr) (x : Frame) (s : RunState) (ty : Option ValType) (a b rest : Code) → code_of (drop x.at instrs) ≡ Choice ty a b rest → step m u.view (config_of m u f instrs x s) ≡ resolved m u.view (world_of m u s) (on_operand (chosen ty a b) (reverse x.operands) (behind m u f instrs x s rest))
+step_chooses : (m : Module) (u : Unseen m) (f : Owner) (instrs : List Instr) (x : Frame) (s : RunState) (ty : Option ValType) (a b rest : Code) → code_of (drop x.at instrs) ≡ Choice ty a b rest → step m u.view (config_of m u f instrs x s) ≡ resolved m u.view (world_of m u s) (on_operand (chosen ty a b) (reverse x.operands) (behind m u f instrs x s rest))
 step_chooses m u f instrs x s ty a b rest e = ap (λ code. step m u.view (behind m u f instrs x s code)) e
 
 -- a step of an `if` without an i32
@@ -116,13 +143,48 @@ choice_begins m instrs x s ty arms os below empty n at labels here are last same
       ∙ ap (λ ps. Next (config_of m u f instrs (record { locals = x.locals; operands = ps; labels = labels; at = at }) s)) (sym none);
 }
 
+followed-plain : (i : Followed) → ((ty : Option ValType) → i ≢ followed.If ty) → is_plain (instr_of i) ≡ true
+followed-plain (followed.If ty) not_if = absurd (not_if ty refl)
+followed-plain i not_if = refl
+
 -- a step of any other instruction is what it does, in the frame behind it
-pub step_acts : (m : Module) (instrs : List Instr) (i : Instr) (x : Frame) (s : RunState) (new : Frame) (after : RunState) (r : Result Effect AllocError) → work_at instrs x.at ≡ Some i → ((ty : Option ValType) → i ≢ If ty) → IfOk r (λ e. Acts m i (record x { at = x.at + 1 }) s e new after) → IfOk r (λ e. IsStep m instrs x s e new after)
+pub step_acts : (m : Module) (instrs : List Instr) (i : Followed) (x : Frame) (s : RunState) (new : Frame) (after : RunState) (r : Result Effect AllocError) → work_at instrs x.at ≡ Some (instr_of i) → ((ty : Option ValType) → i ≢ followed.If ty) → IfOk r (λ e. Acts m (instr_of i) (record x { at = x.at + 1 }) s e new after) → IfOk r (λ e. IsStep m instrs x s e new after)
 step_acts m instrs i x s new after r here not_if h =
-    if_ok (λ e. Acts m i (record x { at = x.at + 1 }) s e new after) (λ e. IsStep m instrs x s e new after) r
+    if_ok (λ e. Acts m (instr_of i) (record x { at = x.at + 1 }) s e new after) (λ e. IsStep m instrs x s e new after) r
     (λ e acts. record {
       by = λ u f.
-          ap (λ code. step m u.view (behind m u f instrs x s code)) (code_of-plain instrs x.at i here not_if)
+          ap (λ code. step m u.view (behind m u f instrs x s code)) (code_of-plain instrs x.at (instr_of i) here (followed-plain i not_if))
           ∙ acts.by u f instrs;
     })
     h
+
+-- what the program follows is this instruction
+pub followed-is : (m : Module) (i : Instr) (j : Followed) → followed_of m i ≡ Some j → i ≡ instr_of j
+followed-is m instr.Unreachable j e = let same : followed.Unreachable ≡ j = cc in ap instr_of same
+followed-is m (If ty) j e = let same : followed.If ty ≡ j = cc in ap instr_of same
+followed-is m (instr.Call f) j e = call_is (nat_lt f (length m.imports)) f j e
+  where
+    call_is : (b : Bool) (f : ℕ) (j : Followed) → cond b (Some (followed.CallHost f)) None ≡ Some j → instr.Call f ≡ instr_of j
+    call_is true f j e = let same : followed.CallHost f ≡ j = cc in ap instr_of same
+    call_is false f j e = absurd (cc)
+followed-is m (instr.LocalGet n) j e = let same : followed.LocalGet n ≡ j = cc in ap instr_of same
+followed-is m (instr.LocalSet n) j e = let same : followed.LocalSet n ≡ j = cc in ap instr_of same
+followed-is m (instr.GlobalGet n) j e = let same : followed.GlobalGet n ≡ j = cc in ap instr_of same
+followed-is m (instr.GlobalSet n) j e = let same : followed.GlobalSet n ≡ j = cc in ap instr_of same
+followed-is m (instr.I32Const z) j e = let same : followed.I32Const z ≡ j = cc in ap instr_of same
+followed-is m (instr.Compare ty.I32 LtU) j e = let same : followed.I32LtU ≡ j = cc in ap instr_of same
+followed-is m (instr.Binary ty.I32 Add) j e = let same : followed.I32Add ≡ j = cc in ap instr_of same
+followed-is m (instr.Binary ty.I32 Sub) j e = let same : followed.I32Sub ≡ j = cc in ap instr_of same
+followed-is m _ j e = absurd (cc)
+
+-- a call that it follows is of an imported function
+pub followed-imports : (m : Module) (i : Instr) (j : Followed) → followed_of m i ≡ Some j → CallsImport m j
+followed-imports m i j e = import_of m j (subst (λ k. followed_of m k ≡ Some j) (followed-is m i j e) e)
+  where
+    in_imports : (m : Module) (f : ℕ) (b : Bool) → nat_lt f (length m.imports) ≡ b → cond b (Some (followed.CallHost f)) None ≡ Some (followed.CallHost f) → f < length m.imports
+    in_imports m f true is e = ltb-true f (length m.imports) is
+    in_imports m f false is e = absurd (cc)
+
+    import_of : (m : Module) (j : Followed) → followed_of m (instr_of j) ≡ Some j → CallsImport m j
+    import_of m (followed.CallHost f) e = in_imports m f (nat_lt f (length m.imports)) refl e
+    import_of m j e = tt

@@ -6,7 +6,7 @@ use Rattle.std.proofs.lemmas.List.{reverse-append, reverse-reverse, length-rever
 use Rattle.std.specs.declared.alloc.AllocError.{AllocError}
 use Rattle.zw_wasm.proofs.Executing.{if_ok}
 use Rattle.std.proofs.Math.Seq.{take-append_seam, drop-append_seam}
-use Rattle.zw_wasm.specs.Computed.{Unseen, config_of, event_of, world_of, Acts, TakesReply, shape_of, shows_values, step_of}
+use Rattle.zw_wasm.specs.Computed.{Owner, Unseen, config_of, event_of, world_of, Acts, TakesReply, shape_of, shows_values, step_of}
 use Rattle.zw_wasm.specs.declared.module.FuncType.{FuncType}
 use Rattle.zw_wasm.specs.declared.module.Instr.{Instr}
 use Rattle.zw_wasm.specs.declared.module.Instr.TheVariants.{Call}
@@ -17,7 +17,7 @@ use Rattle.zw_wasm.specs.declared.reduce.RunState.{RunState}
 use Rattle.zw_wasm.specs.declared.reduce.execute.Effect.{Effect}
 use Rattle.zw_wasm.specs.declared.reduce.frame.Frame.{Frame}
 use Rattle.zw_wasm.specs.Functions.{func_type}
-use Rattle.zw_wasm.specs.Reduction.{Config, CallsHost, Traps, called, enter, entered, frames_trap, host_called, max_frames, no_rule, replied, resolved, result_of, with_event, with_operands, with_world}
+use Rattle.zw_wasm.specs.Reduction.{Config, CallsHost, Traps, arity_of, called, enter, entered, frames_trap, host_called, max_frames, no_rule, replied, resolved, result_of, with_event, with_operands, with_world}
 use Rattle.zw_wasm.specs.Signature.{Shown, Value, Bytes, shown_ranges}
 use Rattle.zw_wasm.specs.Structure.{Num}
 
@@ -52,7 +52,7 @@ enough operands rest args n split count =
 -- an imported function is the host's
 enter-host : (m : Module) (f : ℕ) (args : List Num) (c : Config) → f < length m.imports → enter m f args c ≡ CallsHost f args c
 enter-host m f args c imported =
-    ap (λ b. cond b (CallsHost f args c) (if nat_le max_frames (length c.below) then Traps frames_trap else entered (slice_get m.codes (f - length m.imports)) f args c)) (lt-ltb f (length m.imports) imported)
+    ap (λ b. cond b (CallsHost f args c) (if nat_le max_frames (length c.below) then Traps frames_trap else entered (slice_get m.codes (f - length m.imports)) f (arity_of (func_type m f)) args c)) (lt-ltb f (length m.imports) imported)
 
 -- a call of an imported function whose arguments are there
 called-host : (m : Module) (f : ℕ) (t : FuncType) (c : Config) (operands rest args : List Num) → f < length m.imports → c.frame.operands ≡ reverse operands → operands ≡ rest ++ args → length args ≡ length t.params → called m f (Some t) c ≡ CallsHost f args (with_operands (reverse rest) c)
@@ -71,7 +71,7 @@ events_push m u calls more call pushed =
     ∙ ap (λ es. u.events ++ es) (sym (ap (map (event_of m u.view)) pushed ∙ map-append (event_of m u.view) calls (call ∷ [])))
 
 -- a call of the host shows its event, and takes a reply
-pub host_resolved : (m : Module) (u : Unseen m) (f g : ℕ) (instrs : List Instr) (x : Frame) (before : RunState) (calls : List HostCall) (ty : Option ValType) (args rest new : List Num) (e : Effect) (left : List ℕ) → f < length m.imports → result_of (func_type m f) ≡ ty → calls ≡ before.calls ++ record { import = f; args = args } ∷ [] → TakesReply ty rest before.replies e new left → resolved m u.view (world_of m u before) (CallsHost f args (with_operands (reverse rest) (config_of m u g instrs x before))) ≡ step_of e (config_of m u g instrs (record x { operands = new }) (record { globals = before.globals; replies = left; calls = calls }))
+pub host_resolved : (m : Module) (u : Unseen m) (f : ℕ) (g : Owner) (instrs : List Instr) (x : Frame) (before : RunState) (calls : List HostCall) (ty : Option ValType) (args rest new : List Num) (e : Effect) (left : List ℕ) → f < length m.imports → result_of (func_type m f) ≡ ty → calls ≡ before.calls ++ record { import = f; args = args } ∷ [] → TakesReply ty rest before.replies e new left → resolved m u.view (world_of m u before) (CallsHost f args (with_operands (reverse rest) (config_of m u g instrs x before))) ≡ step_of e (config_of m u g instrs (record x { operands = new }) (record { globals = before.globals; replies = left; calls = calls }))
 host_resolved m u f g instrs x before calls ty args rest new e left imported typed pushed takes =
     let c = with_operands (reverse rest) (config_of m u g instrs x before) in
     let call : HostCall = record { import = f; args = args } in

@@ -5,7 +5,7 @@ use Rattle.std.proofs.lemmas.List.{append-nil, take_more, flat_map_more}
 use Rattle.std.specs.List.{flat_map}
 use Rattle.std.proofs.lemmas.List.Elements.{All-nil, All-push}
 use Rattle.zw_wasm.specs.Fits.{FitsSection}
-use Rattle.zw_wasm.proofs.LebSpellings.{length-unsigned}
+use Rattle.zw_leb.proofs.LebSpellings.{length-unsigned}
 
 pub no_entries : {X : Type 0} (FitsItem : X → Type 0) (item : X → List ℕ) (xs : List X) → eqb (length xs) 0 ≡ true → FitsSection FitsItem item xs
 no_entries FitsItem item [] none = record {

@@ -1,7 +1,7 @@
 -- A module's machine keeps the law of machines: a call that ended stays ended, with the same record, under a larger
 -- bound, and one that runs on only adds to its record.
 use Rattle.std.proofs.Common.{◌≡◌, ℕ, zero, suc, ◌+◌, ◌≤◌, Bool, true, false, cond, List, [], ◌∷◌, length, take, drop, reverse, Option, Some, None, refl, sym, ap, subst, arith}
-use Rattle.std.specs.Prelude.{nat_eq, nat_le, nat_lt, slice_set}
+use Rattle.std.specs.Prelude.{nat_eq, nat_le, nat_lt, slice_get, slice_set}
 use Rattle.zw_session.proofs.Prefixes.{prefix_same, prefix_trans, prefix_front}
 use Rattle.zw_session.specs.Bounds.{Lasts, LeavesWithin, StaysEnded}
 use Rattle.zw_session.specs.Lists.{IsPrefix}
@@ -10,14 +10,20 @@ use Rattle.zw_wasm.proofs.RunsCompose.{with_more, run-stays_ended}
 use Rattle.zw_wasm.specs.declared.module.CodeBody.{CodeBody}
 use Rattle.zw_wasm.specs.declared.module.FuncType.{FuncType}
 use Rattle.zw_wasm.specs.declared.module.Instr.{Instr}
-use Rattle.zw_wasm.specs.declared.module.Instr.TheVariants.{Unreachable, If, Else, End, Call, LocalGet, LocalSet, GlobalGet, GlobalSet, I32Const, I32LtU, I32Add, I32Sub}
+use Rattle.zw_wasm.specs.declared.module.Instr.TheVariants as instr
+use Rattle.zw_wasm.specs.declared.module.LoadKind.{LoadKind}
+use Rattle.zw_wasm.specs.declared.module.StoreKind.{StoreKind}
 use Rattle.zw_wasm.specs.declared.module.Module.{Module}
 use Rattle.zw_wasm.specs.declared.module.ValType.{ValType}
+use Rattle.zw_wasm.specs.declared.module.ValType.TheVariants as ty
+use Rattle.zw_wasm.specs.Accesses.{bytes_stored, store_type}
+use Rattle.zw_wasm.specs.Numerics.{Answer, Gives, DividesByZero, Overflows, binary_of}
 use Rattle.zw_wasm.specs.ModuleMachine.{begun, run_export, end_of, outcome_of, module_machine, export_in}
 use Rattle.zw_wasm.specs.Functions.{func_type}
-use Rattle.zw_wasm.specs.Reduction.{Config, World, Store, Step, Next, Stops, Rests, Stop, Finished, Trap, NoReply, Run, Going, Ended, Work, Single, Chooses, Action, Goes, CallsHost, Traps, Fetched, Found, Over, with_operand, with_operands, on_operand, with_local, with_global, on_two_i32, i32_add, i32_sub, i32_lt_u, max_frames, entered, enter, called, act, chosen, done, replied, host_called, resolved, step_of, step, stands_in, fetched, at_bound, after_step, run}
+use Rattle.zw_wasm.specs.Reduction.{Config, World, Store, Step, Next, Stops, Rests, Stop, Finished, Trap, NoReply, Run, Going, Ended, Work, Single, Chooses, Begins, BeginsLoop, Label, Action, Goes, CallsHost, Traps, Fetched, Found, Over, with_operand, with_operands, on_operand, with_local, with_global, with_local_too, pushed, answered, on_one, on_two, tested, compared, computed, operated, converted, dropped, selected, loaded, loads, stored, stores, grown, grows, jumped, returned, branched_to, branched, branched_unless_zero, branched_by, label_or, same_func_type, called_by, called_at, max_frames, entered, enter, called, act, chosen, done, replied, host_called, resolved, step_of, step, stands_in, fetched, at_bound, after_step, run}
 use Rattle.zw_wasm.specs.Signature.{Reading, View, shown_ranges}
-use Rattle.zw_wasm.specs.Structure.{Num, I32, I64, Code}
+use Rattle.zw_wasm.specs.Structure.{Num, I32, I64, Code, width_of}
+use Rattle.zw_wasm.specs.Typing.{converts_from}
 
 -- two worlds with the same host calls and the same replies that are left
 record SameRecord (u w : World) : Type 0 where
@@ -53,21 +59,89 @@ with_global-keeps n v c =
     let same : SameRecord (record c.world { store = record c.world.store { globals = slice_set c.world.store.globals n v } }) c.world = record { events = refl; replies = refl } in
     either-keeps (nat_lt n (length c.world.store.globals)) c.world _ _ same tt
 
-on_two-keeps : (f : ℕ → ℕ → Num) (os : List Num) (c : Config) → KeepsRecord c.world (on_two_i32 f os c)
-on_two-keeps f [] c = tt
-on_two-keeps f (I64 y ∷ os) c = tt
-on_two-keeps f (I32 y ∷ []) c = tt
-on_two-keeps f (I32 y ∷ I64 x ∷ os) c = tt
-on_two-keeps f (I32 y ∷ I32 x ∷ os) c = same_record c.world
+with_local_too-keeps : (n : ℕ) (v : Num) (c : Config) → KeepsRecord c.world (with_local_too n v c)
+with_local_too-keeps n v c = with_local-keeps n v (pushed v c)
 
-entered-keeps : (b : Option CodeBody) (f : ℕ) (args : List Num) (c : Config) → KeepsRecord c.world (entered b f args c)
-entered-keeps None f args c = tt
-entered-keeps (Some b) f args c = same_record c.world
+-- ---- numbers
+
+answered-keeps : (t : ValType) (a : Answer) (c : Config) → KeepsRecord c.world (answered t a c)
+answered-keeps t (Gives n) c = same_record c.world
+answered-keeps t DividesByZero c = tt
+answered-keeps t Overflows c = tt
+
+on_one-keeps : (t : ValType) (go : ℕ → Config → Action) (os : List Num) (c : Config) → ((x : ℕ) (d : Config) → KeepsRecord d.world (go x d)) → KeepsRecord c.world (on_one t go os c)
+on_one-keeps ty.I32 go [] c h = tt
+on_one-keeps ty.I32 go (I32 x ∷ os) c h = h x (with_operands os c)
+on_one-keeps ty.I32 go (I64 x ∷ os) c h = tt
+on_one-keeps ty.I64 go [] c h = tt
+on_one-keeps ty.I64 go (I32 x ∷ os) c h = tt
+on_one-keeps ty.I64 go (I64 x ∷ os) c h = h x (with_operands os c)
+
+on_two-keeps : (t : ValType) (go : ℕ → ℕ → Config → Action) (os : List Num) (c : Config) → ((x y : ℕ) (d : Config) → KeepsRecord d.world (go x y d)) → KeepsRecord c.world (on_two t go os c)
+on_two-keeps ty.I32 go [] c h = tt
+on_two-keeps ty.I32 go (I64 y ∷ os) c h = tt
+on_two-keeps ty.I32 go (I32 y ∷ []) c h = tt
+on_two-keeps ty.I32 go (I32 y ∷ I64 x ∷ os) c h = tt
+on_two-keeps ty.I32 go (I32 y ∷ I32 x ∷ os) c h = h x y (with_operands os c)
+on_two-keeps ty.I64 go [] c h = tt
+on_two-keeps ty.I64 go (I32 y ∷ os) c h = tt
+on_two-keeps ty.I64 go (I64 y ∷ []) c h = tt
+on_two-keeps ty.I64 go (I64 y ∷ I32 x ∷ os) c h = tt
+on_two-keeps ty.I64 go (I64 y ∷ I64 x ∷ os) c h = h x y (with_operands os c)
+
+selected-keeps : (os : List Num) (c : Config) → KeepsRecord c.world (selected os c)
+selected-keeps [] c = tt
+selected-keeps (I64 n ∷ os) c = tt
+selected-keeps (I32 n ∷ []) c = tt
+selected-keeps (I32 n ∷ y ∷ []) c = tt
+selected-keeps (I32 n ∷ y ∷ x ∷ os) c = same_record c.world
+
+-- ---- memory
+
+loaded-keeps : (kind : LoadKind) (bytes : Option (List ℕ)) (c : Config) → KeepsRecord c.world (loaded kind bytes c)
+loaded-keeps kind None c = tt
+loaded-keeps kind (Some bytes) c = same_record c.world
+
+stored-keeps : (offset : ℕ) (bytes : List ℕ) (x : ℕ) (c : Config) → KeepsRecord c.world (stored offset bytes x c)
+stored-keeps offset bytes x c =
+    either-keeps (nat_le (x + offset + length bytes) (length c.world.store.memory)) c.world _ _ (record { events = refl; replies = refl }) tt
+
+stores-keeps : (kind : StoreKind) (offset value : ℕ) (c : Config) → KeepsRecord c.world (stores kind offset value c)
+stores-keeps kind offset value c =
+    on_one-keeps ty.I32 (stored offset (bytes_stored kind value)) c.frame.operands c (stored-keeps offset (bytes_stored kind value))
+
+grown-keeps : (b : Bool) (n : ℕ) (c : Config) → KeepsRecord c.world (grown b n c)
+grown-keeps true n c = record { events = refl; replies = refl }
+grown-keeps false n c = same_record c.world
+
+-- ---- branches
+
+jumped-keeps : (l : Label) (n : ℕ) (c : Config) → KeepsRecord c.world (jumped l n c)
+jumped-keeps l n c = either-keeps (nat_le l.arity (length c.frame.operands)) c.world _ _ (same_record c.world) tt
+
+returned-keeps : (c : Config) → KeepsRecord c.world (returned c)
+returned-keeps c = either-keeps (nat_le c.frame.arity (length c.frame.operands)) c.world _ _ (same_record c.world) tt
+
+branched_to-keeps : (l : Option Label) (n : ℕ) (c : Config) → KeepsRecord c.world (branched_to l n c)
+branched_to-keeps (Some l) n c = jumped-keeps l n c
+branched_to-keeps None n c = either-keeps (nat_eq n (length c.frame.labels)) c.world _ _ (returned-keeps c) tt
+
+branched-keeps : (n : ℕ) (c : Config) → KeepsRecord c.world (branched n c)
+branched-keeps n c = branched_to-keeps _ n c
+
+branched_unless_zero-keeps : (n x : ℕ) (c : Config) → KeepsRecord c.world (branched_unless_zero n x c)
+branched_unless_zero-keeps n x c = either-keeps (nat_eq x 0) c.world _ _ (same_record c.world) (branched-keeps n c)
+
+-- ---- calls
+
+entered-keeps : (b : Option CodeBody) (f arity : ℕ) (args : List Num) (c : Config) → KeepsRecord c.world (entered b f arity args c)
+entered-keeps None f arity args c = tt
+entered-keeps (Some b) f arity args c = same_record c.world
 
 enter-keeps : (m : Module) (f : ℕ) (args : List Num) (c : Config) → KeepsRecord c.world (enter m f args c)
 enter-keeps m f args c =
     either-keeps (nat_lt f (length m.imports)) c.world _ _ (same_record c.world)
-    (either-keeps (nat_le max_frames (length c.below)) c.world _ _ tt (entered-keeps _ f args c))
+    (either-keeps (nat_le max_frames (length c.below)) c.world _ _ tt (entered-keeps _ f _ args c))
 
 called-keeps : (m : Module) (f : ℕ) (t : Option FuncType) (c : Config) → KeepsRecord c.world (called m f t c)
 called-keeps m f None c = tt
@@ -75,20 +149,44 @@ called-keeps m f (Some t) c =
     either-keeps (nat_le (length t.params) (length c.frame.operands)) c.world _ _
     (enter-keeps m f (reverse (take (length t.params) c.frame.operands)) (with_operands (drop (length t.params) c.frame.operands) c)) tt
 
+called_by-keeps : (m : Module) (t : Option FuncType) (f : Option (Option ℕ)) (c : Config) → KeepsRecord c.world (called_by m t f c)
+called_by-keeps m t None c = tt
+called_by-keeps m t (Some None) c = tt
+called_by-keeps m t (Some (Some f)) c =
+    either-keeps (same_func_type t (func_type m f)) c.world _ _ (called-keeps m f (func_type m f) c) tt
+
 act-keeps : (m : Module) (i : Instr) (c : Config) → KeepsRecord c.world (act m i c)
-act-keeps m Unreachable c = tt
-act-keeps m (If result) c = tt
-act-keeps m Else c = tt
-act-keeps m End c = tt
-act-keeps m (Call f) c = called-keeps m f (func_type m f) c
-act-keeps m (LocalGet n) c = with_operand-keeps _ c
-act-keeps m (LocalSet n) c = on_operand-keeps (with_local n) c.frame.operands c (with_local-keeps n)
-act-keeps m (GlobalGet n) c = with_operand-keeps _ c
-act-keeps m (GlobalSet n) c = on_operand-keeps (with_global n) c.frame.operands c (with_global-keeps n)
-act-keeps m (I32Const z) c = same_record c.world
-act-keeps m I32LtU c = on_two-keeps i32_lt_u c.frame.operands c
-act-keeps m I32Add c = on_two-keeps i32_add c.frame.operands c
-act-keeps m I32Sub c = on_two-keeps i32_sub c.frame.operands c
+act-keeps m instr.Unreachable c = tt
+act-keeps m instr.Nop c = same_record c.world
+act-keeps m (instr.Block result) c = tt
+act-keeps m (instr.Loop result) c = tt
+act-keeps m (instr.If result) c = tt
+act-keeps m instr.Else c = tt
+act-keeps m instr.End c = tt
+act-keeps m (instr.Br n) c = branched-keeps n c
+act-keeps m (instr.BrIf n) c = on_one-keeps ty.I32 (branched_unless_zero n) c.frame.operands c (branched_unless_zero-keeps n)
+act-keeps m (instr.BrTable labels default) c = on_one-keeps ty.I32 (branched_by labels default) c.frame.operands c (λ x d. branched-keeps (label_or default (slice_get labels x)) d)
+act-keeps m instr.Return c = returned-keeps c
+act-keeps m (instr.Call f) c = called-keeps m f (func_type m f) c
+act-keeps m (instr.CallIndirect k) c = on_one-keeps ty.I32 (called_at m k) c.frame.operands c (λ x d. called_by-keeps m (slice_get m.types k) (slice_get d.world.store.table x) d)
+act-keeps m instr.Drop c = on_operand-keeps dropped c.frame.operands c (λ v d. same_record d.world)
+act-keeps m instr.Select c = selected-keeps c.frame.operands c
+act-keeps m (instr.LocalGet n) c = with_operand-keeps _ c
+act-keeps m (instr.LocalSet n) c = on_operand-keeps (with_local n) c.frame.operands c (with_local-keeps n)
+act-keeps m (instr.LocalTee n) c = on_operand-keeps (with_local_too n) c.frame.operands c (with_local_too-keeps n)
+act-keeps m (instr.GlobalGet n) c = with_operand-keeps _ c
+act-keeps m (instr.GlobalSet n) c = on_operand-keeps (with_global n) c.frame.operands c (with_global-keeps n)
+act-keeps m (instr.Load kind at) c = on_one-keeps ty.I32 (loads kind at.offset) c.frame.operands c (λ x d. loaded-keeps kind _ d)
+act-keeps m (instr.Store kind at) c = on_one-keeps (store_type kind) (stores kind at.offset) c.frame.operands c (stores-keeps kind at.offset)
+act-keeps m instr.MemorySize c = same_record c.world
+act-keeps m instr.MemoryGrow c = on_one-keeps ty.I32 (grows m) c.frame.operands c (λ n d. grown-keeps _ n d)
+act-keeps m (instr.I32Const z) c = same_record c.world
+act-keeps m (instr.I64Const z) c = same_record c.world
+act-keeps m (instr.IsZero t) c = on_one-keeps t tested c.frame.operands c (λ x d. same_record d.world)
+act-keeps m (instr.Compare t comparison) c = on_two-keeps t (compared t comparison) c.frame.operands c (λ x y d. same_record d.world)
+act-keeps m (instr.Unary t operator) c = on_one-keeps t (computed t operator) c.frame.operands c (λ x d. same_record d.world)
+act-keeps m (instr.Binary t operator) c = on_two-keeps t (operated t operator) c.frame.operands c (λ x y d. answered-keeps t (binary_of operator (width_of t) x y) d)
+act-keeps m (instr.Convert conversion) c = on_one-keeps (converts_from conversion) (converted conversion) c.frame.operands c (λ x d. same_record d.world)
 
 chosen-keeps : (result : Option ValType) (a b : Code) (v : Num) (c : Config) → KeepsRecord c.world (chosen result a b v c)
 chosen-keeps result a b (I32 n) c = either-keeps (nat_eq n 0) c.world _ _ (same_record c.world) (same_record c.world)
@@ -97,6 +195,8 @@ chosen-keeps result a b (I64 n) c = tt
 done-keeps : (m : Module) (work : Work) (c : Config) → KeepsRecord c.world (done m work c)
 done-keeps m (Single i) c = act-keeps m i c
 done-keeps m (Chooses result a b) c = on_operand-keeps (chosen result a b) c.frame.operands c (chosen-keeps result a b)
+done-keeps m (Begins result body) c = same_record c.world
+done-keeps m (BeginsLoop result body) c = same_record c.world
 
 -- the host calls so far, after a step from this world
 abbrev step_events : World → Step → List HostEvent

@@ -1,22 +1,24 @@
 -- Running: a run of the plain program is one of the definition, step by step.
 use Rattle.std.proofs.Common.{◌≡◌, ◌≢◌, ℕ, zero, suc, ◌-◌, ◌<◌, ◌≤◌, cond, List, [], ◌∷◌, ◌++◌, length, drop, get_or, reverse, Option, Some, None, Result, inl, inr, refl, sym, ap, ◌∙◌, subst, arith, le-ltb}
-use Rattle.std.specs.Prelude.{slice_get, IfOk, IsTrue, MatchOption}
+use Rattle.std.specs.Prelude.{slice_get, IfOk, MatchOption}
 use Rattle.std.proofs.lemmas.Bool.{cases_Bool}
 use Rattle.std.proofs.lemmas.List.{append-nil}
 use Rattle.std.proofs.lemmas.Option.{slice_get_read}
 use Rattle.std.specs.declared.alloc.AllocError.{AllocError}
 use Rattle.zw_wasm.proofs.Calls.{enter-is}
-use Rattle.zw_wasm.proofs.Executing.{if_ok}
+use Rattle.zw_wasm.proofs.Executing.{followed-imports, followed-is, if_ok}
 use Rattle.zw_wasm.proofs.RunsCompose.{rests}
-use Rattle.zw_wasm.specs.Computed.{CodeRuns, ComeOut, LeadsToOwnCall, FrameEnds, FunctionRuns, IsStep, StandsAt, Unseen, calls_own, code_in, instrs_of, config_of, entered_frame, frame_of, step_of, work_at, work_of, world_of}
+use Rattle.zw_wasm.specs.Computed.{CallsImport, CodeRuns, ComeOut, LeadsToOther, Owner, FrameEnds, FunctionRuns, IsStep, StandsAt, Unseen, code_in, followed_of, instr_of, owner_in, instrs_of, config_of, entered_frame, frame_of, step_of, work_at, work_of, world_of}
 use Rattle.zw_wasm.specs.declared.module.CodeBody.{CodeBody}
 use Rattle.zw_wasm.specs.declared.module.Instr.{Instr}
-use Rattle.zw_wasm.specs.declared.module.Instr.TheVariants.{If, Else, End}
+use Rattle.zw_wasm.specs.declared.module.Instr.TheVariants.{Loop, If, Else, End}
+use Rattle.zw_wasm.specs.declared.module.Instr.TheVariants as instr
 use Rattle.zw_wasm.specs.declared.module.Module.{Module}
 use Rattle.zw_wasm.specs.declared.module.ValType.{ValType}
 use Rattle.zw_wasm.specs.declared.reduce.RunEnd.{RunEnd}
 use Rattle.zw_wasm.specs.declared.reduce.RunEnd.TheVariants as end
 use Rattle.zw_wasm.specs.declared.reduce.RunState.{RunState}
+use Rattle.zw_wasm.specs.declared.reduce.followed.Followed.{Followed}
 use Rattle.zw_wasm.specs.declared.reduce.execute.Effect.{Effect}
 use Rattle.zw_wasm.specs.declared.reduce.execute.Effect.TheVariants as effect
 use Rattle.zw_wasm.specs.declared.reduce.frame.Frame.{Frame}
@@ -24,7 +26,7 @@ use Rattle.zw_wasm.specs.ModuleMachine.{begun, host_frame, run_function}
 use Rattle.zw_wasm.specs.Reduction.{Action, CallsHost, Config, Ended, Finished, Going, Goes, Returns, Run, Traps, World, after_step, at_bound, fetched, host_called, replied, resolved, run, stands_in, step}
 use Rattle.zw_wasm.specs.Reduction as reduction
 use Rattle.zw_wasm.specs.Signature.{View}
-use Rattle.zw_wasm.specs.Structure.{Num, Code, Ends, Plain, Choice, Part, choice_of, choice_of_one, choice_of_two, code_of, first_part, parts, zeros}
+use Rattle.zw_wasm.specs.Structure.{Num, Code, Ends, Plain, Choice, Block, Repeat, Part, choice_of, choice_of_one, choice_of_two, code_of, first_part, parts, zeros}
 
 -- what holds in the one case, and in the other
 match_some : {A : Type 0} (o : Option A) (P : Type 0) (Q : A → Type 0) (x : A) → o ≡ Some x → MatchOption o P Q → Q x
@@ -37,7 +39,7 @@ match_none (Some y) P Q e h = absurd (cc)
 
 -- A run of code with these locals leads to this frame and state, with this much of the bound left.
 pub record Leads (m : Module) (instrs : List Instr) (locals : List Num) (bound : ℕ) (old : RunState) (x : Frame) (s : RunState) (left : ℕ) : Type 0 where
-  pub by : (u : Unseen m) (f : ℕ) → run m u.view bound (config_of m u f instrs (entered_frame locals) old) ≡ run m u.view left (config_of m u f instrs x s)
+  pub by : (u : Unseen m) (f : Owner) → run m u.view bound (config_of m u f instrs (entered_frame locals) old) ≡ run m u.view left (config_of m u f instrs x s)
 
 -- the next step of a configuration with this frame
 abbrev step_in : (m : Module) → Unseen m → RunState → reduction.Stands → reduction.Step
@@ -45,7 +47,7 @@ step_in m u s stands = reduction.step_of m u.view (world_of m u s) (fetched stan
 
 -- A run of code with these locals leads to a step in this state, with this effect and this much of the bound behind it.
 pub record Steps (m : Module) (instrs : List Instr) (locals : List Num) (bound : ℕ) (old s : RunState) (left : ℕ) (e : Effect) (new : Frame) (after : RunState) : Type 0 where
-  pub by : (u : Unseen m) (f : ℕ) → run m u.view bound (config_of m u f instrs (entered_frame locals) old) ≡ after_step (step_of e (config_of m u f instrs new after)) (world_of m u s) left (run m u.view left)
+  pub by : (u : Unseen m) (f : Owner) → run m u.view bound (config_of m u f instrs (entered_frame locals) old) ≡ after_step (step_of e (config_of m u f instrs new after)) (world_of m u s) left (run m u.view left)
 
 -- what stands next, where an instruction does
 stands : (instrs : List Instr) (x y : Frame) (o : Option Instr) (i : Instr) → o ≡ Some i → MatchOption o (FrameEnds instrs x y) (λ j. StandsAt instrs x j y) → StandsAt instrs x i y
@@ -105,10 +107,12 @@ at_bound-resolved m v (CallsHost k args c) w = at_bound-host_called _ m v k args
 at_bound-resolved m v (Traps code) w = refl
 
 -- where code is left, something stands next
-at_bound-code : (m : Module) (u : Unseen m) (f : ℕ) (locals operands : List Num) (labels : List reduction.Label) (s : RunState) (code : Code) → code ≢ Ends → at_bound (step_in m u s (stands_in (record { func = f; locals = locals; operands = operands; code = code; labels = labels }))) (world_of m u s) ≡ Going (world_of m u s)
+at_bound-code : (m : Module) (u : Unseen m) (f : Owner) (locals operands : List Num) (labels : List reduction.Label) (s : RunState) (code : Code) → code ≢ Ends → at_bound (step_in m u s (stands_in (record { func = f.func; arity = f.arity; locals = locals; operands = operands; code = code; labels = labels }))) (world_of m u s) ≡ Going (world_of m u s)
 at_bound-code m u f locals operands labels s Ends some = absurd (some refl)
 at_bound-code m u f locals operands labels s (Plain i rest) some = at_bound-resolved m u.view _ (world_of m u s)
 at_bound-code m u f locals operands labels s (Choice ty a b rest) some = at_bound-resolved m u.view _ (world_of m u s)
+at_bound-code m u f locals operands labels s (Block ty body rest) some = refl
+at_bound-code m u f locals operands labels s (Repeat ty body rest) some = refl
 
 choice-some : (ty : Option ValType) (ps : List Part) → (first_part (choice_of ty ps)).code ≢ Ends
 choice-some ty ps e =
@@ -126,6 +130,8 @@ begun-some : (instrs : List Instr) (i : Instr) → work_of (Some i) ≡ Some i �
 begun-some instrs Else e same = absurd (cc)
 begun-some instrs End e same = absurd (cc)
 begun-some instrs (If ty) e same = choice-some ty (parts instrs) same
+begun-some instrs (instr.Block ty) e same = absurd (cc)
+begun-some instrs (Loop ty) e same = absurd (cc)
 begun-some instrs i e same = absurd (cc)
 
 code-some : (instrs : List Instr) (at : ℕ) (i : Instr) → work_at instrs at ≡ Some i → code_of (drop at instrs) ≢ Ends
@@ -148,41 +154,49 @@ body_read m f len codes b same count inside is =
     slice_get_read m.codes (length m.codes) (f - length m.imports) b refl inside
     (is ∙ ap (λ cs. get_or cs (f - len) b) same ∙ ap (λ n. get_or m.codes (f - n) b) count)
 
--- a call that the program doesn't follow stands next
-pub calls_own_function : (m : Module) (instrs : List Instr) (locals : List Num) (bound : ℕ) (old : RunState) (x : Frame) (s : RunState) (left : ℕ) (o : Option Instr) (i : Instr) (y : Frame) → Leads m instrs locals bound old x s left → o ≡ Some i → MatchOption o (FrameEnds instrs x y) (λ j. StandsAt instrs x j y) → IsTrue (calls_own m i) → CodeRuns m instrs locals bound old end.CallsOwn s
-calls_own_function m instrs locals bound old x s left o i y leads is next own = λ f.
+-- an instruction that the program doesn't follow stands next
+pub other_stands : (m : Module) (instrs : List Instr) (locals : List Num) (bound : ℕ) (old : RunState) (x : Frame) (s : RunState) (left : ℕ) (o : Option Instr) (i : Instr) (y : Frame) (known : Option Followed) → Leads m instrs locals bound old x s left → o ≡ Some i → MatchOption o (FrameEnds instrs x y) (λ j. StandsAt instrs x j y) → known ≡ followed_of m i → known ≡ None → CodeRuns m instrs locals bound old end.NotFollowed s
+other_stands m instrs locals bound old x s left o i y known leads is next seen none = λ f.
     let at = stands instrs x y o i is next in
     record {
       frame = y;
       left = left;
       instr = i;
       here = at.here;
-      calls = own;
+      other = sym seen ∙ none;
       by = λ u. leads.by u f ∙ run-same m u s (frame_of f instrs x) (frame_of f instrs y) (at.same f) left;
     }
 
+-- an instruction that it follows stands next
+pub followed_next : (m : Module) (instrs : List Instr) (x y : Frame) (o : Option Instr) (i : Instr) (known : Option Followed) (j : Followed) → o ≡ Some i → MatchOption o (FrameEnds instrs x y) (λ k. StandsAt instrs x k y) → known ≡ followed_of m i → known ≡ Some j → work_at instrs y.at ≡ Some (instr_of j)
+followed_next m instrs x y o i known j is next seen some =
+    (stands instrs x y o i is next).here ∙ ap (λ k. Some k) (followed-is m i j (sym seen ∙ some))
+
+pub followed_imported : (m : Module) (i : Instr) (known : Option Followed) (j : Followed) → known ≡ followed_of m i → known ≡ Some j → CallsImport m j
+followed_imported m i known j seen some = followed-imports m i j (sym seen ∙ some)
+
 -- the runs of a function, of this body
-runs-body : (m : Module) (f : ℕ) (args locals : List Num) (bound : ℕ) (old : RunState) (b : CodeBody) (instrs : List Instr) (u : Unseen m) → length m.imports ≤ f → slice_get m.codes (f - length m.imports) ≡ Some b → instrs ≡ b.instrs → locals ≡ args ++ zeros b.locals → run_function m u.view f args (world_of m u old) bound ≡ run m u.view bound (config_of m u f instrs (entered_frame locals) old)
+runs-body : (m : Module) (f : ℕ) (args locals : List Num) (bound : ℕ) (old : RunState) (b : CodeBody) (instrs : List Instr) (u : Unseen m) → length m.imports ≤ f → slice_get m.codes (f - length m.imports) ≡ Some b → instrs ≡ b.instrs → locals ≡ args ++ zeros b.locals → run_function m u.view f args (world_of m u old) bound ≡ run m u.view bound (config_of m u (owner_in m f) instrs (entered_frame locals) old)
 runs-body m f args locals bound old b instrs u own there code same =
     let w = world_of m u old in
     ap (λ a. begun (resolved m u.view w a) w m u.view bound) (enter-is m f args w b (le-ltb f (length m.imports) own) there)
-    ∙ ap (λ ls. run m u.view bound (config_of m u f b.instrs (entered_frame ls) old)) (sym same)
-    ∙ ap (λ is. run m u.view bound (config_of m u f is (entered_frame locals) old)) (sym code)
+    ∙ ap (λ ls. run m u.view bound (config_of m u (owner_in m f) b.instrs (entered_frame ls) old)) (sym same)
+    ∙ ap (λ is. run m u.view bound (config_of m u (owner_in m f) is (entered_frame locals) old)) (sym code)
 
 -- other runs of the same code come out so
-come_out-as : (m : Module) (f : ℕ) (instrs code : List Instr) (runs others : Unseen m → Run) (e : RunEnd) (after : RunState) → instrs ≡ code → ((u : Unseen m) → others u ≡ runs u) → ComeOut m f instrs runs e after → ComeOut m f code others e after
+come_out-as : (m : Module) (f : Owner) (instrs code : List Instr) (runs others : Unseen m → Run) (e : RunEnd) (after : RunState) → instrs ≡ code → ((u : Unseen m) → others u ≡ runs u) → ComeOut m f instrs runs e after → ComeOut m f code others e after
 come_out-as m f instrs code runs others (end.Returned results left) after same equal h = λ u. equal u ∙ h u
 come_out-as m f instrs code runs others (end.Trapped cause left) after same equal h = λ u. equal u ∙ h u
 come_out-as m f instrs code runs others (end.WantsReply left) after same equal h = λ u. equal u ∙ h u
 come_out-as m f instrs code runs others end.StillRuns after same equal h = λ u. equal u ∙ h u
-come_out-as m f instrs code runs others end.CallsOwn after same equal h =
-    subst (λ is. LeadsToOwnCall m f is others after) same
-    (record { frame = h.frame; left = h.left; instr = h.instr; here = h.here; calls = h.calls; by = λ u. equal u ∙ h.by u })
+come_out-as m f instrs code runs others end.NotFollowed after same equal h =
+    subst (λ is. LeadsToOther m f is others after) same
+    (record { frame = h.frame; left = h.left; instr = h.instr; here = h.here; other = h.other; by = λ u. equal u ∙ h.by u })
 
 pub function_result : (m : Module) (f : ℕ) (args locals : List Num) (bound : ℕ) (old new : RunState) (b : CodeBody) (instrs : List Instr) (r : Result RunEnd AllocError) → length m.imports ≤ f → slice_get m.codes (f - length m.imports) ≡ Some b → instrs ≡ b.instrs → locals ≡ args ++ zeros b.locals → IfOk r (λ e. CodeRuns m instrs locals bound old e new) → IfOk r (λ e. FunctionRuns m f args bound old e new)
 function_result m f args locals bound old new b instrs r own there code same h =
     if_ok (λ e. CodeRuns m instrs locals bound old e new) (λ e. FunctionRuns m f args bound old e new) r
     (λ e runs.
-    come_out-as m f instrs (code_in m f) (λ u. run m u.view bound (config_of m u f instrs (entered_frame locals) old)) (λ u. run_function m u.view f args (world_of m u old) bound) e new
-    (code ∙ sym (ap instrs_of there)) (λ u. runs-body m f args locals bound old b instrs u own there code same) (runs f))
+    come_out-as m (owner_in m f) instrs (code_in m f) (λ u. run m u.view bound (config_of m u (owner_in m f) instrs (entered_frame locals) old)) (λ u. run_function m u.view f args (world_of m u old) bound) e new
+    (code ∙ sym (ap instrs_of there)) (λ u. runs-body m f args locals bound old b instrs u own there code same) (runs (owner_in m f)))
     h

@@ -6,14 +6,14 @@ use Rattle.std.proofs.lemmas.Bool.{le-leb, lt-ltb}
 use Rattle.std.proofs.lemmas.List.{length-append, length-reverse, reverse-reverse}
 use Rattle.zw_session.specs.Sessions.{HostEvent}
 use Rattle.zw_wasm.specs.declared.module.FuncType.{FuncType}
-use Rattle.zw_wasm.specs.declared.module.Instr.TheVariants.{Unreachable, Call, LocalGet, LocalSet, GlobalGet, GlobalSet, I32Const, I32LtU, I32Add, I32Sub}
+use Rattle.zw_wasm.specs.declared.module.Instr.TheVariants.{Unreachable, Call, LocalGet, LocalSet, GlobalGet, GlobalSet, I32Const}
 use Rattle.zw_wasm.specs.declared.module.Module.{Module}
 use Rattle.zw_wasm.specs.declared.module.ValType.{ValType}
 use Rattle.zw_wasm.specs.Functions.{func_type}
-use Rattle.zw_wasm.specs.Reduction.{Frame, Label, Config, World, Step, Next, Stops, Rests, Stop, Finished, Trap, NoReply, Run, Going, Ended, Goes, CallsHost, Traps, with_operand, with_world, with_event, under_label, entered, enter, called, max_frames, frames_trap, no_rule, unreachable_trap, replied, result_of, field_of, host_called, resolved, step, at_bound, after_step, run}
+use Rattle.zw_wasm.specs.Reduction.{Frame, Label, Config, World, Step, Next, Stops, Rests, Stop, Finished, Trap, NoReply, Run, Going, Ended, Goes, CallsHost, Traps, with_operand, with_world, with_event, under_label, arity_of, at_work, entered, enter, called, max_frames, frames_trap, no_rule, unreachable_trap, replied, result_of, field_of, host_called, resolved, step, at_bound, after_step, run}
 use Rattle.zw_wasm.specs.Sequences.{placed, with_locals, Runs, Halts}
 use Rattle.zw_wasm.specs.Signature.{View, shown_scalars, shown_ranges}
-use Rattle.zw_wasm.specs.Structure.{Num, I32, Code, Ends, Plain, Choice, num_of, word_of}
+use Rattle.zw_wasm.specs.Structure.{Num, I32, Code, Ends, Plain, Choice, i32_add, i32_lt_u, i32_sub, num_of, word_of}
 
 pub runs-none : (m : Module) (v : View) (c : Config) → Runs m v c c 0
 runs-none m v c = record { by = λ k. ap (λ n. run m v n c) (zero-add k) }
@@ -46,13 +46,13 @@ runs-local_get m v c n x rest os e =
 pub runs-i32_const : (m : Module) (v : View) (c : Config) (z : ℤ) (rest : Code) (os : List Num) → Runs m v (placed (Plain (I32Const z) rest) os c) (placed rest (I32 (word_of z) ∷ os) c) 1
 runs-i32_const m v c z rest os = runs-step m v _ _ refl
 
-pub runs-i32_add : (m : Module) (v : View) (c : Config) (x y : ℕ) (rest : Code) (os : List Num) → Runs m v (placed (Plain I32Add rest) (I32 y ∷ I32 x ∷ os) c) (placed rest (I32 ((x + y) % 2 ^ 32) ∷ os) c) 1
+pub runs-i32_add : (m : Module) (v : View) (c : Config) (x y : ℕ) (rest : Code) (os : List Num) → Runs m v (placed (Plain i32_add rest) (I32 y ∷ I32 x ∷ os) c) (placed rest (I32 ((x + y) % 2 ^ 32) ∷ os) c) 1
 runs-i32_add m v c x y rest os = runs-step m v _ _ refl
 
-pub runs-i32_sub : (m : Module) (v : View) (c : Config) (x y : ℕ) (rest : Code) (os : List Num) → Runs m v (placed (Plain I32Sub rest) (I32 y ∷ I32 x ∷ os) c) (placed rest (I32 ((x + (2 ^ 32 - y)) % 2 ^ 32) ∷ os) c) 1
+pub runs-i32_sub : (m : Module) (v : View) (c : Config) (x y : ℕ) (rest : Code) (os : List Num) → Runs m v (placed (Plain i32_sub rest) (I32 y ∷ I32 x ∷ os) c) (placed rest (I32 ((x + (2 ^ 32 - y)) % 2 ^ 32) ∷ os) c) 1
 runs-i32_sub m v c x y rest os = runs-step m v _ _ refl
 
-pub runs-i32_lt_u : (m : Module) (v : View) (c : Config) (x y : ℕ) (rest : Code) (os : List Num) → Runs m v (placed (Plain I32LtU rest) (I32 y ∷ I32 x ∷ os) c) (placed rest (I32 (if nat_lt x y then 1 else 0) ∷ os) c) 1
+pub runs-i32_lt_u : (m : Module) (v : View) (c : Config) (x y : ℕ) (rest : Code) (os : List Num) → Runs m v (placed (Plain i32_lt_u rest) (I32 y ∷ I32 x ∷ os) c) (placed rest (I32 (if nat_lt x y then 1 else 0) ∷ os) c) 1
 runs-i32_lt_u m v c x y rest os = runs-step m v _ _ refl
 
 pub runs-local_set : (m : Module) (v : View) (c : Config) (n : ℕ) (x : Num) (rest : Code) (os : List Num) → n < length c.frame.locals → Runs m v (placed (Plain (LocalSet n) rest) (x ∷ os) c) (placed rest os (with_locals (slice_set c.frame.locals n x) c)) 1
@@ -89,19 +89,19 @@ pub runs-same : (m : Module) (v : View) (c d : Config) → step m v c ≡ step m
 runs-same m v c d s w = record { by = λ k. ap (λ n. run m v n c) (zero-add k) ∙ same_runs m v c d s w k }
 
 -- the end of a label takes no instruction, and leaves its operands to what stands round it
-pub runs-label_end : (m : Module) (v : View) (f : ℕ) (locals os : List Num) (l : Label) (ls : List Label) (below : List Frame) (w : World) → Runs m v (record { frame = record { func = f; locals = locals; operands = os; code = Ends; labels = l ∷ ls }; below = below; world = w }) (record { frame = record { func = f; locals = locals; operands = os ++ l.below; code = l.follows; labels = ls }; below = below; world = w }) 0
-runs-label_end m v f locals os l ls below w = runs-same m v _ _ refl refl
+pub runs-label_end : (m : Module) (v : View) (f : Frame) (os : List Num) (l : Label) (ls : List Label) (below : List Frame) (w : World) → Runs m v (record { frame = at_work f os Ends (l ∷ ls); below = below; world = w }) (record { frame = at_work f (os ++ l.below) l.follows ls; below = below; world = w }) 0
+runs-label_end m v f os l ls below w = runs-same m v _ _ refl refl
 
 -- the end of a body takes no instruction, and leaves its results to the frame below
-pub runs-body_end : (m : Module) (v : View) (f : ℕ) (locals os : List Num) (g : Frame) (below : List Frame) (w : World) → Runs m v (record { frame = record { func = f; locals = locals; operands = os; code = Ends; labels = [] }; below = g ∷ below; world = w }) (record { frame = record g { operands = os ++ g.operands }; below = below; world = w }) 0
-runs-body_end m v f locals os g below w = runs-same m v _ _ refl refl
+pub runs-body_end : (m : Module) (v : View) (f : Frame) (os : List Num) (g : Frame) (below : List Frame) (w : World) → Runs m v (record { frame = at_work f os Ends []; below = g ∷ below; world = w }) (record { frame = record g { operands = os ++ g.operands }; below = below; world = w }) 0
+runs-body_end m v f os g below w = runs-same m v _ _ refl refl
 
 -- where there is no second code, 0 takes one instruction and leaves things as they are
 pub runs-choice_passed : (m : Module) (v : View) (c : Config) (a rest : Code) (os : List Num) → Runs m v (placed (Choice None a Ends rest) (I32 0 ∷ os) c) (placed rest os c) 1
 runs-choice_passed m v c a rest os =
     let l : Label = record { arity = 0; branch = rest; follows = rest; below = os } in
     runs-then (runs-choice_second m v c None a Ends rest os)
-    (runs-label_end m v c.frame.func c.frame.locals [] l c.frame.labels c.below c.world)
+    (runs-label_end m v c.frame [] l c.frame.labels c.below c.world)
 
 -- ---- calls
 
@@ -130,7 +130,7 @@ host-step m v c k t args shown rest os imported typed count seen =
     let after = with_world (with_event (host_event m v k args shown) c.world) d in
     ap (λ o. resolved m v c.world (called m k o (placed rest (reverse args ++ os) c))) typed
     ∙ ap (resolved m v c.world) (called-is m c k t args rest os count)
-    ∙ ap (λ b. resolved m v c.world (cond b (CallsHost k args d) (cond (nat_le max_frames (length c.below)) (Traps frames_trap) (entered (slice_get m.codes (k - length m.imports)) k args d)))) imported
+    ∙ ap (λ b. resolved m v c.world (cond b (CallsHost k args d) (cond (nat_le max_frames (length c.below)) (Traps frames_trap) (entered (slice_get m.codes (k - length m.imports)) k (arity_of (func_type m k)) args d)))) imported
     ∙ ap (λ s. host_called s m v k args d) seen
     ∙ ap (λ o. replied (result_of o) c.world.replies after) typed
 

@@ -14,16 +14,14 @@ use Rattle.zw_wasm.specs.declared.module.DataSegment.{DataSegment}
 use Rattle.zw_wasm.specs.declared.module.CodeBody.{CodeBody}
 use Rattle.zw_wasm.specs.declared.module.Instr.{Instr}
 use Rattle.zw_wasm.specs.declared.module.Module.{Module}
-use Rattle.zw_wasm.specs.declared.encode.instructions.Immediate.{Immediate}
-use Rattle.zw_wasm.specs.declared.encode.instructions.Immediate.TheVariants.{Nothing, BlockType, Index, Signed32}
-use Rattle.zw_wasm.specs.Leb.{unsigned}
-use Rattle.zw_wasm.specs.Opcodes.{opcode, immediate_of}
+use Rattle.zw_leb.specs.Leb.{unsigned}
+use Rattle.zw_wasm.specs.Opcodes.{Immediate, Nothing, BlockType, Index, Labels, IndexAndZero, Zero, Memory, Signed32, Signed64, opcode, immediate_of}
 use Rattle.zw_wasm.specs.Spelling.{vector, byte_vector, value_type, result_type, function_type, bounds, limits, table_type, mutability, block_type, immediate, instruction, expression, function_import, global, export, element, local_run, body, code, data_segment, section, list_section, start_section, header, front_sections, back_sections, spelling}
 use Rattle.zw_wasm.specs.ModuleBytes.{ModuleBytes, InTurn, Byte, IsU32, EachInTurn, IsVector, IsByteVector, IsName, Sized, IsValueType, IsResultType, IsFunctionType, AreBounds, AreLimits, IsTableType, IsMutability, IsBlockType, IsImmediate, IsInstruction, IsExpression, EndsOnce, IsFunctionImport, IsGlobal, IsExport, IsElement, IsLocalRun, IsCode, IsDataSegment, IsSection, IsListSection, IsStartSection, Behind, AreFrontSections, AreBackSections}
 use Rattle.zw_wasm.specs.Fits.{Fits, Fits32, Countable, FitsVector, FitsSection, FitsValueType, FitsLimits, FitsImmediate, FitsInstruction, FitsExpression, FitsFunctionType, FitsImport, FitsGlobal, FitsExport, FitsElement, FitsRun, FitsCode, FitsData, FitsFront, FitsBack}
 use Rattle.zw_wasm.specs.WellFormed.{IsWellFormed, HasNames, IsWellFormedExport, IsWellFormedCode}
-use Rattle.zw_wasm.proofs.LebSpellings.{below_32_bits}
-use Rattle.zw_wasm.proofs.ShortestNumbers.{unsigned_grows, unsigned_shortest, some_byte, signed_shortest, within_32_bits}
+use Rattle.zw_leb.proofs.LebSpellings.{below_32_bits}
+use Rattle.zw_leb.proofs.ShortestNumbers.{unsigned_grows, unsigned_shortest, some_byte, signed_shortest, within_32_bits, within_64_bits}
 use Rattle.zw_wasm.proofs.Lists.{no_entries}
 use Rattle.zw_wasm.proofs.Encodes.{encodes}
 
@@ -225,13 +223,23 @@ immediate_shortest : (a : Immediate) (bytes : List ℕ) → IsImmediate a bytes 
 immediate_shortest Nothing bytes p = omega arith
 immediate_shortest (BlockType result) bytes p = block_type_shortest result bytes p
 immediate_shortest (Index index) bytes p = unsigned_shortest 32 bytes index p
+immediate_shortest (Labels labels default) bytes t = both (vector unsigned labels) (unsigned default) bytes t (vector_shortest numbers labels t.front t.first) (unsigned_shortest 32 t.back default t.second)
+immediate_shortest (IndexAndZero index) bytes t = both (unsigned index) (0x00 ∷ []) bytes t (unsigned_shortest 32 t.front index t.first) (byte_shortest 0x00 t.back t.second)
+immediate_shortest Zero bytes p = byte_shortest 0x00 bytes p
+immediate_shortest (Memory at) bytes t = both (unsigned at.align) (unsigned at.offset) bytes t (unsigned_shortest 32 t.front at.align t.first) (unsigned_shortest 32 t.back at.offset t.second)
 immediate_shortest (Signed32 z) bytes p = signed_shortest 32 bytes z p
+immediate_shortest (Signed64 z) bytes p = signed_shortest 64 bytes z p
 
 immediate_fits : (a : Immediate) (bytes : List ℕ) → IsImmediate a bytes → FitsImmediate a
 immediate_fits Nothing bytes p = tt
 immediate_fits (BlockType result) bytes p = tt
 immediate_fits (Index index) bytes p = below_32_bits bytes index p
+immediate_fits (Labels labels default) bytes t = (vector_fits numbers labels t.front t.first, below_32_bits t.back default t.second)
+immediate_fits (IndexAndZero index) bytes t = below_32_bits t.front index t.first
+immediate_fits Zero bytes p = tt
+immediate_fits (Memory at) bytes t = (below_32_bits t.front at.align t.first, below_32_bits t.back at.offset t.second)
 immediate_fits (Signed32 z) bytes p = within_32_bits bytes z p
+immediate_fits (Signed64 z) bytes p = within_64_bits bytes z p
 
 instruction_shortest : (i : Instr) (bytes : List ℕ) → IsInstruction i bytes → length (instruction i) ≤ length bytes
 instruction_shortest i bytes t =

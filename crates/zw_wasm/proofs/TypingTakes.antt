@@ -6,14 +6,15 @@ use Rattle.std.proofs.lemmas.List.{map-append, reverse-append}
 use Rattle.zw_wasm.specs.declared.module.FuncType.{FuncType}
 use Rattle.zw_wasm.specs.declared.module.GlobalDef.{GlobalDef}
 use Rattle.zw_wasm.specs.declared.module.Instr.{Instr}
-use Rattle.zw_wasm.specs.declared.module.Instr.TheVariants.{Unreachable, If, End, Call, LocalGet, LocalSet, GlobalGet, GlobalSet, I32Const, I32LtU, I32Add, I32Sub}
+use Rattle.zw_wasm.specs.declared.module.Instr.TheVariants.{Unreachable, If, End, Call, LocalGet, LocalSet, GlobalGet, GlobalSet, I32Const}
 use Rattle.zw_wasm.specs.declared.module.ValType.{ValType}
 use Rattle.zw_wasm.specs.declared.module.ValType.TheVariants.{I32, I64}
 use Rattle.zw_wasm.specs.Functions.{func_type}
 use Rattle.zw_wasm.specs.Sequences.{Takes}
+use Rattle.zw_wasm.specs.Structure.{i32_add, i32_lt_u, i32_sub}
 use Rattle.zw_wasm.specs.Typing.{Context, Control, Operand, Known, Goes, Refused, wrong_type, same_type, taken, and_taken, all_taken, put_on, with_operands, with_index, replaces, writes, if_control, after_instr, check_instr, check_code}
 
-abbrev known : List ValType → List Operand
+abbrev pub known : List ValType → List Operand
 known ts = map (λ t. Known t) ts
 
 pub takes-none : (x : Context) (ts : List ValType) → Takes x [] ts ts
@@ -43,14 +44,14 @@ takes-local_get x n t ts e = takes-instr x (LocalGet n) ts (t ∷ ts) (λ below 
 pub takes-i32_const : (x : Context) (z : ℤ) (ts : List ValType) → Takes x (I32Const z ∷ []) ts (I32 ∷ ts)
 takes-i32_const x z ts = takes-instr x (I32Const z) ts (I32 ∷ ts) (λ below c outer. refl)
 
-pub takes-i32_add : (x : Context) (ts : List ValType) → Takes x (I32Add ∷ []) (I32 ∷ I32 ∷ ts) (I32 ∷ ts)
-takes-i32_add x ts = takes-instr x I32Add (I32 ∷ I32 ∷ ts) (I32 ∷ ts) (λ below c outer. refl)
+pub takes-i32_add : (x : Context) (ts : List ValType) → Takes x (i32_add ∷ []) (I32 ∷ I32 ∷ ts) (I32 ∷ ts)
+takes-i32_add x ts = takes-instr x i32_add (I32 ∷ I32 ∷ ts) (I32 ∷ ts) (λ below c outer. refl)
 
-pub takes-i32_sub : (x : Context) (ts : List ValType) → Takes x (I32Sub ∷ []) (I32 ∷ I32 ∷ ts) (I32 ∷ ts)
-takes-i32_sub x ts = takes-instr x I32Sub (I32 ∷ I32 ∷ ts) (I32 ∷ ts) (λ below c outer. refl)
+pub takes-i32_sub : (x : Context) (ts : List ValType) → Takes x (i32_sub ∷ []) (I32 ∷ I32 ∷ ts) (I32 ∷ ts)
+takes-i32_sub x ts = takes-instr x i32_sub (I32 ∷ I32 ∷ ts) (I32 ∷ ts) (λ below c outer. refl)
 
-pub takes-i32_lt_u : (x : Context) (ts : List ValType) → Takes x (I32LtU ∷ []) (I32 ∷ I32 ∷ ts) (I32 ∷ ts)
-takes-i32_lt_u x ts = takes-instr x I32LtU (I32 ∷ I32 ∷ ts) (I32 ∷ ts) (λ below c outer. refl)
+pub takes-i32_lt_u : (x : Context) (ts : List ValType) → Takes x (i32_lt_u ∷ []) (I32 ∷ I32 ∷ ts) (I32 ∷ ts)
+takes-i32_lt_u x ts = takes-instr x i32_lt_u (I32 ∷ I32 ∷ ts) (I32 ∷ ts) (λ below c outer. refl)
 
 -- ---- what is known of operands is taken
 
@@ -58,17 +59,17 @@ same_type-same : (t : ValType) → same_type t t ≡ true
 same_type-same I32 = refl
 same_type-same I64 = refl
 
-taken-known : (t : ValType) (os : List Operand) (u : Bool) → taken t (Known t ∷ os) u ≡ Some os
+pub taken-known : (t : ValType) (os : List Operand) (u : Bool) → taken t (Known t ∷ os) u ≡ Some os
 taken-known t os u = ap (λ b. cond b (Some os) None) (same_type-same t)
 
 -- the operands of a sequence of parameters, the last first
-known-onto : (t : ValType) (ts : List ValType) (os : List Operand) → known (reverse (t ∷ ts)) ++ os ≡ known (reverse ts) ++ (Known t ∷ os)
+pub known-onto : (t : ValType) (ts : List ValType) (os : List Operand) → known (reverse (t ∷ ts)) ++ os ≡ known (reverse ts) ++ (Known t ∷ os)
 known-onto t ts os =
     ap (λ us. known us ++ os) (reverse-append (t ∷ []) ts)
     ∙ ap (λ us. us ++ os) (map-append (λ t. Known t) (reverse ts) (t ∷ []))
     ∙ append_assoc (known (reverse ts)) (Known t ∷ []) os
 
-all_taken-known : (ts : List ValType) (os : List Operand) (u : Bool) → all_taken ts (known (reverse ts) ++ os) u ≡ Some os
+pub all_taken-known : (ts : List ValType) (os : List Operand) (u : Bool) → all_taken ts (known (reverse ts) ++ os) u ≡ Some os
 all_taken-known [] os u = refl
 all_taken-known (t ∷ ts) os u =
     ap (λ us. and_taken (all_taken ts us u) (λ rest. taken t rest u)) (known-onto t ts os)
@@ -97,7 +98,7 @@ takes-global_set x n g ts e changes = takes-instr x (GlobalSet n) (g.ty ∷ ts) 
 
 -- ---- calls
 
-put_on-known : (r : Option ValType) (ts : List ValType) (below : List Operand) → put_on (option_to_list r) (known ts ++ below) ≡ known (option_to_list r ++ ts) ++ below
+pub put_on-known : (r : Option ValType) (ts : List ValType) (below : List Operand) → put_on (option_to_list r) (known ts ++ below) ≡ known (option_to_list r ++ ts) ++ below
 put_on-known None ts below = refl
 put_on-known (Some t) ts below = refl
 

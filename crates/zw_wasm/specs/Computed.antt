@@ -1,28 +1,35 @@
 -- Computed: what the plain program of reduction answers, in the words of the definition. It keeps the last operand and
 -- the innermost label at the end of a list, and for code a place in the body's flat list.
-use Rattle.std.specs.Prelude.{◌≡◌, ◌⊎◌, ℕ, ◌+◌, ◌-◌, ◌<◌, ◌≤◌, nat_le, Bool, true, false, List, [], ◌∷◌, ◌++◌, length, drop, map, reverse, Option, Some, None, MatchOption, slice_get, slice_index_or, slice_set, IsTrue}
+use Rattle.std.specs.Prelude.{◌≡◌, ◌⊎◌, ℕ, ◌+◌, ◌-◌, ◌<◌, ◌≤◌, nat_lt, Bool, true, false, List, [], ◌∷◌, ◌++◌, length, drop, map, reverse, Option, Some, None, MatchOption, slice_get, slice_index_or, slice_set, IsTrue, if◌then◌else◌}
 use Rattle.zw_session.specs.Sessions.{HostEvent}
 use Rattle.zw_wasm.specs.declared.module.CodeBody.{CodeBody}
 use Rattle.zw_wasm.specs.declared.module.FuncType.{FuncType}
 use Rattle.zw_wasm.specs.declared.module.Instr.{Instr}
-use Rattle.zw_wasm.specs.declared.module.Instr.TheVariants.{If, Else, End, Call}
+use Rattle.zw_wasm.specs.declared.module.BinaryOperator.TheVariants.{Add, Sub}
+use Rattle.zw_wasm.specs.declared.module.Comparison.TheVariants.{LtU}
+use Rattle.zw_wasm.specs.declared.module.Instr.TheVariants.{If, Else, End}
+use Rattle.zw_wasm.specs.declared.module.Instr.TheVariants as instr
 use Rattle.zw_wasm.specs.declared.module.Module.{Module}
 use Rattle.zw_wasm.specs.declared.module.ValType.{ValType}
 use Rattle.zw_wasm.specs.declared.reduce.HostCall.{HostCall}
 use Rattle.zw_wasm.specs.declared.reduce.RunEnd.{RunEnd}
 use Rattle.zw_wasm.specs.declared.reduce.RunEnd.TheVariants as end
 use Rattle.zw_wasm.specs.declared.reduce.RunState.{RunState}
+use Rattle.zw_wasm.specs.declared.module.ValType.TheVariants as ty
+use Rattle.zw_wasm.specs.declared.reduce.followed.Followed.{Followed}
+use Rattle.zw_wasm.specs.declared.reduce.followed.Followed.TheVariants as followed
 use Rattle.zw_wasm.specs.declared.reduce.ends.Arms.{Arms}
 use Rattle.zw_wasm.specs.declared.reduce.ends.SequenceEnd.{SequenceEnd}
 use Rattle.zw_wasm.specs.declared.reduce.execute.Effect.{Effect}
 use Rattle.zw_wasm.specs.declared.reduce.execute.Effect.TheVariants as effect
 use Rattle.zw_wasm.specs.declared.reduce.frame.Frame.{Frame}
 use Rattle.zw_wasm.specs.declared.reduce.frame.Label.{Label}
+use Rattle.zw_wasm.specs.Functions.{func_type}
 use Rattle.zw_wasm.specs.ModuleMachine.{host_frame, run_function}
 use Rattle.zw_wasm.specs.Reduction as reduction
-use Rattle.zw_wasm.specs.Reduction.{Action, CallsHost, Config, Ended, Finished, Going, Goes, Next, NoReply, Returns, Run, Step, Stops, Trap, Traps, World, act, chosen, field_of, no_rule, on_operand, on_two_i32, replied, resolved, run, stands_in, step, with_operands}
+use Rattle.zw_wasm.specs.Reduction.{Action, CallsHost, Config, Ended, Finished, Going, Goes, Next, NoReply, Returns, Run, Step, Stops, Trap, Traps, World, act, arity_of, chosen, field_of, no_rule, on_operand, on_two, replied, resolved, run, stands_in, step, with_operands}
 use Rattle.zw_wasm.specs.Signature.{Bytes, Shown, Value, View, shown_scalars}
-use Rattle.zw_wasm.specs.Structure.{Choice, Code, Num, begun_with, code_of, first_part, other_parts, parts}
+use Rattle.zw_wasm.specs.Structure.{Choice, Code, Num, begun_with, code_of, first_part, i32_add, i32_lt_u, i32_sub, other_parts, parts}
 use Rattle.std.specs.Option.{option_to_list}
 
 -- whether a host function is shown values alone, and no bytes of the memory
@@ -63,10 +70,20 @@ label_of instrs l = record {
   below = reverse l.below;
 }
 
--- the frame of a function of this number and code
-abbrev pub frame_of : ℕ → List Instr → Frame → reduction.Frame
+-- whose frame it is: its function's number, and how many results it returns
+pub record Owner : Type 0 where
+  pub func : ℕ
+  pub arity : ℕ
+
+-- a function of the module, by its number
+abbrev pub owner_in : Module → ℕ → Owner
+owner_in m f = record { func = f; arity = arity_of (func_type m f) }
+
+-- the frame of a function of this code
+abbrev pub frame_of : Owner → List Instr → Frame → reduction.Frame
 frame_of f instrs x = record {
-  func = f;
+  func = f.func;
+  arity = f.arity;
   locals = x.locals;
   operands = reverse x.operands;
   code = code_of (drop x.at instrs);
@@ -74,13 +91,41 @@ frame_of f instrs x = record {
 }
 
 -- the frame, called from outside
-abbrev pub config_of : (m : Module) → Unseen m → ℕ → List Instr → Frame → RunState → Config
+abbrev pub config_of : (m : Module) → Unseen m → Owner → List Instr → Frame → RunState → Config
 config_of m u f instrs x s = record { frame = frame_of f instrs x; below = host_frame ∷ []; world = world_of m u s }
 
--- whether an instruction calls a function that isn't imported
-abbrev pub calls_own : Module → Instr → Bool
-calls_own m (Call f) = nat_le (length m.imports) f
-calls_own m _ = false
+-- the instruction that the plain program follows, where this one is such, and that instruction again
+abbrev pub followed_of : Module → Instr → Option Followed
+followed_of m instr.Unreachable = Some followed.Unreachable
+followed_of m (If ty) = Some (followed.If ty)
+followed_of m (instr.Call f) = if nat_lt f (length m.imports) then Some (followed.CallHost f) else None
+followed_of m (instr.LocalGet n) = Some (followed.LocalGet n)
+followed_of m (instr.LocalSet n) = Some (followed.LocalSet n)
+followed_of m (instr.GlobalGet n) = Some (followed.GlobalGet n)
+followed_of m (instr.GlobalSet n) = Some (followed.GlobalSet n)
+followed_of m (instr.I32Const z) = Some (followed.I32Const z)
+followed_of m (instr.Compare ty.I32 LtU) = Some followed.I32LtU
+followed_of m (instr.Binary ty.I32 Add) = Some followed.I32Add
+followed_of m (instr.Binary ty.I32 Sub) = Some followed.I32Sub
+followed_of m _ = None
+
+abbrev pub instr_of : Followed → Instr
+instr_of followed.Unreachable = instr.Unreachable
+instr_of (followed.If ty) = If ty
+instr_of (followed.CallHost f) = instr.Call f
+instr_of (followed.LocalGet n) = instr.LocalGet n
+instr_of (followed.LocalSet n) = instr.LocalSet n
+instr_of (followed.GlobalGet n) = instr.GlobalGet n
+instr_of (followed.GlobalSet n) = instr.GlobalSet n
+instr_of (followed.I32Const z) = instr.I32Const z
+instr_of followed.I32LtU = i32_lt_u
+instr_of followed.I32Add = i32_add
+instr_of followed.I32Sub = i32_sub
+
+-- where it calls a function, that is imported
+abbrev pub CallsImport : Module → Followed → Type 0
+CallsImport m (followed.CallHost f) = f < length m.imports
+CallsImport m _ = Unit {0}
 
 -- the run that came out so, in this world, where the program followed it
 abbrev pub run_of : RunEnd → Option (World → Run)
@@ -88,7 +133,7 @@ run_of (end.Returned results left) = Some (λ w. Ended (Finished (reverse result
 run_of (end.Trapped code left) = Some (λ w. Ended (Trap code) w left)
 run_of (end.WantsReply left) = Some (λ w. Ended NoReply w left)
 run_of end.StillRuns = Some (λ w. Going w)
-run_of end.CallsOwn = None
+run_of end.NotFollowed = None
 
 -- the instruction at a place, unless a sequence ends there
 abbrev pub work_of : Option Instr → Option Instr
@@ -100,19 +145,19 @@ work_of (Some i) = Some i
 abbrev pub work_at : List Instr → ℕ → Option Instr
 work_at instrs at = work_of (slice_get instrs at)
 
--- a run leads to a call of a function that isn't imported, in code of a function of this number, with what is after it
-pub record LeadsToOwnCall (m : Module) (f : ℕ) (instrs : List Instr) (runs : Unseen m → Run) (after : RunState) : Type 0 where
+-- A run leads to an instruction that the program doesn't follow, in code of a function, with what is after it.
+pub record LeadsToOther (m : Module) (f : Owner) (instrs : List Instr) (runs : Unseen m → Run) (after : RunState) : Type 0 where
   pub frame : Frame
   pub left : ℕ
   pub instr : Instr
   pub here : work_at instrs frame.at ≡ Some instr
-  pub calls : IsTrue (calls_own m instr)
+  pub other : followed_of m instr ≡ None
   pub by : (u : Unseen m) → runs u ≡ run m u.view left (config_of m u f instrs frame after)
 
--- Runs, one for whatever isn't seen, come out so, with what is after them. The code is that of a function of this number.
-abbrev pub ComeOut : (m : Module) → ℕ → List Instr → (Unseen m → Run) → RunEnd → RunState → Type 0
+-- Runs, one for whatever isn't seen, come out so, with what is after them. The code is that of a function.
+abbrev pub ComeOut : (m : Module) → Owner → List Instr → (Unseen m → Run) → RunEnd → RunState → Type 0
 ComeOut m f instrs runs e after =
-    MatchOption (run_of e) (LeadsToOwnCall m f instrs runs after) (λ out. (u : Unseen m) → runs u ≡ out (world_of m u after))
+    MatchOption (run_of e) (LeadsToOther m f instrs runs after) (λ out. (u : Unseen m) → runs u ≡ out (world_of m u after))
 
 abbrev pub instrs_of : Option CodeBody → List Instr
 instrs_of None = []
@@ -125,7 +170,7 @@ code_in m f = instrs_of (slice_get m.codes (f - length m.imports))
 -- a run of a function of this number comes out so, from what was before to what is after
 abbrev pub FunctionRuns : Module → ℕ → List Num → ℕ → RunState → RunEnd → RunState → Type 0
 FunctionRuns m f args bound before e after =
-    ComeOut m f (code_in m f) (λ u. run_function m u.view f args (world_of m u before) bound) e after
+    ComeOut m (owner_in m f) (code_in m f) (λ u. run_function m u.view f args (world_of m u before) bound) e after
 
 abbrev pub entered_frame : List Num → Frame
 entered_frame locals = record { locals = locals; operands = []; labels = []; at = 0 }
@@ -133,16 +178,16 @@ entered_frame locals = record { locals = locals; operands = []; labels = []; at 
 -- a run of code with these locals comes out so, in any function
 abbrev pub CodeRuns : Module → List Instr → List Num → ℕ → RunState → RunEnd → RunState → Type 0
 CodeRuns m instrs locals bound before e after =
-    (f : ℕ) → ComeOut m f instrs (λ u. run m u.view bound (config_of m u f instrs (entered_frame locals) before)) e after
+    (f : Owner) → ComeOut m f instrs (λ u. run m u.view bound (config_of m u f instrs (entered_frame locals) before)) e after
 
 -- a frame that ends, with these results, of whatever function it is
 pub record FrameEnds (instrs : List Instr) (old new : Frame) : Type 0 where
-  pub by : (f : ℕ) → stands_in (frame_of f instrs old) ≡ Returns (reverse new.operands)
+  pub by : (f : Owner) → stands_in (frame_of f instrs old) ≡ Returns (reverse new.operands)
 
 -- the instruction stands at the new frame's place, and next in the old frame
 pub record StandsAt (instrs : List Instr) (old : Frame) (i : Instr) (new : Frame) : Type 0 where
   pub here : work_at instrs new.at ≡ Some i
-  pub same : (f : ℕ) → stands_in (frame_of f instrs old) ≡ stands_in (frame_of f instrs new)
+  pub same : (f : Owner) → stands_in (frame_of f instrs old) ≡ stands_in (frame_of f instrs new)
 
 -- the step that an effect is, to this configuration
 abbrev pub step_of : Effect → Config → Step
@@ -152,11 +197,11 @@ step_of effect.WantsReply c = Stops NoReply c.world
 
 -- what stands next has this effect, in any function of the module
 pub record IsStep (m : Module) (instrs : List Instr) (old : Frame) (before : RunState) (e : Effect) (new : Frame) (after : RunState) : Type 0 where
-  pub by : (u : Unseen m) (f : ℕ) → step m u.view (config_of m u f instrs old before) ≡ step_of e (config_of m u f instrs new after)
+  pub by : (u : Unseen m) (f : Owner) → step m u.view (config_of m u f instrs old before) ≡ step_of e (config_of m u f instrs new after)
 
 -- an instruction has this effect, in the frame behind it
 pub record Acts (m : Module) (i : Instr) (old : Frame) (before : RunState) (e : Effect) (new : Frame) (after : RunState) : Type 0 where
-  pub by : (u : Unseen m) (f : ℕ) (instrs : List Instr) → resolved m u.view (world_of m u before) (act m i (config_of m u f instrs old before)) ≡ step_of e (config_of m u f instrs new after)
+  pub by : (u : Unseen m) (f : Owner) (instrs : List Instr) → resolved m u.view (world_of m u before) (act m i (config_of m u f instrs old before)) ≡ step_of e (config_of m u f instrs new after)
 
 -- an action on the operands alone has this effect
 pub record ActsOnOperands (action : Config → Action) (old : List Num) (e : Effect) (new : List Num) : Type 0 where
@@ -174,7 +219,11 @@ pub record NoI32 (operands : List Num) : Type 0 where
 
 -- the operands don't end with two i32
 pub record NoTwoI32 (operands : List Num) : Type 0 where
-  pub by : (f : ℕ → ℕ → Num) (c : Config) → on_two_i32 f (reverse operands) c ≡ Traps no_rule
+  pub by : (go : ℕ → ℕ → Config → Action) (c : Config) → on_two ty.I32 go (reverse operands) c ≡ Traps no_rule
+
+-- an operator on two i32 has this effect on the operands
+abbrev pub ActsOnI32 : Followed → List Num → Effect → List Num → Type 0
+ActsOnI32 i old e new = (m : Module) → ActsOnOperands (act m (instr_of i)) old e new
 
 -- the configuration with these replies
 abbrev pub with_replies : List ℕ → Config → Config

@@ -1,6 +1,6 @@
 -- What 32 bits have room for in the bytes of a module: its numbers, the numbers of its items, and its sizes.
 use Rattle.std.specs.Prelude.{ℕ, ◌<◌, ◌^◌, List, length, All, IfSome, FitsSigned}
-use Rattle.std.specs.Int.{w32}
+use Rattle.std.specs.Int.{w32, w64}
 use Rattle.zw_wasm.specs.declared.module.ValType.{ValType}
 use Rattle.zw_wasm.specs.declared.module.FuncType.{FuncType}
 use Rattle.zw_wasm.specs.declared.module.FuncImport.{FuncImport}
@@ -12,10 +12,8 @@ use Rattle.zw_wasm.specs.declared.module.DataSegment.{DataSegment}
 use Rattle.zw_wasm.specs.declared.module.CodeBody.{CodeBody}
 use Rattle.zw_wasm.specs.declared.module.Instr.{Instr}
 use Rattle.zw_wasm.specs.declared.module.Module.{Module}
-use Rattle.zw_wasm.specs.declared.encode.instructions.Immediate.{Immediate}
-use Rattle.zw_wasm.specs.declared.encode.instructions.Immediate.TheVariants.{Nothing, BlockType, Index, Signed32}
-use Rattle.zw_wasm.specs.Leb.{unsigned}
-use Rattle.zw_wasm.specs.Opcodes.{immediate_of}
+use Rattle.zw_leb.specs.Leb.{unsigned}
+use Rattle.zw_wasm.specs.Opcodes.{Immediate, Nothing, BlockType, Index, Labels, IndexAndZero, Zero, Memory, Signed32, Signed64, immediate_of}
 use Rattle.zw_wasm.specs.Spelling.{vector, function_type, table_type, limits, global, function_import, export, element, code, body, data_segment}
 
 -- a number of 32 bits
@@ -51,7 +49,12 @@ abbrev pub FitsImmediate : Immediate → Type 0
 FitsImmediate Nothing = Unit {0}
 FitsImmediate (BlockType result) = Unit {0}
 FitsImmediate (Index index) = Fits32 index
+FitsImmediate (Labels labels default) = FitsVector Fits32 labels × Fits32 default
+FitsImmediate (IndexAndZero index) = Fits32 index
+FitsImmediate Zero = Unit {0}
+FitsImmediate (Memory at) = Fits32 at.align × Fits32 at.offset
 FitsImmediate (Signed32 z) = FitsSigned w32 z
+FitsImmediate (Signed64 z) = FitsSigned w64 z
 
 abbrev pub FitsInstruction : Instr → Type 0
 FitsInstruction i = FitsImmediate (immediate_of i)

@@ -1,20 +1,23 @@
 -- Laws: what the definitions of validity and reduction owe to those who build on them.
-use Rattle.std.specs.Prelude.{◌≡◌, ℕ, pos, ◌+◌, true, false, List, [], ◌∷◌, ◌++◌, Option, Some, None}
+use Rattle.std.specs.Prelude.{◌≡◌, ℕ, ◌+◌, false, nat_eq, List, [], ◌∷◌, ◌++◌, length, reverse, Option, Some, None, slice_get}
+use Rattle.std.specs.Option.{option_to_list}
 use Rattle.zw_session.specs.Bounds.{StaysEnded}
-use Rattle.zw_wasm.specs.declared.module.FuncImport.{FuncImport}
 use Rattle.zw_wasm.specs.declared.module.Instr.{Instr}
-use Rattle.zw_wasm.specs.declared.module.Instr.TheVariants.{Unreachable, If, Else, End, LocalGet, LocalSet, GlobalGet, GlobalSet, I32Const, I32LtU, I32Add, I32Sub}
+use Rattle.zw_wasm.specs.declared.module.Instr.TheVariants.{Unreachable, Loop, If, Else, End, Br, BrIf, Return, LocalGet, LocalSet}
 use Rattle.zw_wasm.specs.declared.module.Instr.TheVariants as instr
 use Rattle.zw_wasm.specs.declared.module.Module.{Module}
 use Rattle.zw_wasm.specs.declared.module.ValType.{ValType}
 use Rattle.zw_wasm.specs.declared.module.ValType.TheVariants.{I32, I64}
+use Rattle.zw_wasm.specs.declared.num.Num.{Num}
+use Rattle.zw_wasm.specs.declared.num.Num.TheVariants as num
 use Rattle.zw_wasm.specs.ModuleBytes.{EndsOnce}
 use Rattle.zw_wasm.specs.ModuleMachine.{module_machine}
-use Rattle.zw_wasm.specs.Reduction.{Config, World, Stop}
-use Rattle.zw_wasm.specs.Sequences.{Runs, Halts, Takes}
+use Rattle.zw_wasm.specs.Reduction.{Config, Frame, Label, World, Stop, labelled, under_label, under_loop}
+use Rattle.zw_wasm.specs.Sequences.{IsCodeOf, LeavesIn, Runs, Halts, Takes, TakesIn, at_body_end, at_label, placed}
 use Rattle.zw_wasm.specs.Signature.{View}
-use Rattle.zw_wasm.specs.Structure.{Code, Ends, Plain, Choice, Spells, code_of}
-use Rattle.zw_wasm.specs.Typing.{Context, Place, body_control, check_code, no_index, wrong_type}
+use Rattle.zw_wasm.specs.Structure.{Code, Ends, Plain, Choice, Block, Repeat, Spells, code_of, i32_add}
+use Rattle.zw_wasm.specs.Typing.{Context}
+use Rattle.zw_wasm.specs.WellFormed.{block_of, if_block, if_else_block, loop_of}
 
 -- Two runs, one from where the other leads to, are one run; and two sequences, one of which takes what the other
 -- leaves, are one sequence.
@@ -23,122 +26,38 @@ pub record SequencesCompose : Type 0 where
   pub halts : (m : Module) (v : View) (c d : Config) (s : Stop) (w : World) (i j : ℕ) → Runs m v c d i → Halts m v d s w j → Halts m v c s w (i + j)
   pub typed : (x : Context) (is js : List Instr) (ts us vs : List ValType) → Takes x is ts us → Takes x js us vs → Takes x (is ++ js) ts vs
 
+-- What blocks, loops and branches do wherever they stand. A branch takes along as many operands as its label wants, and a
+-- return as many as the function has results; the others are left behind.
+pub record BranchesRun : Type 0 where
+  pub block : (m : Module) (v : View) (c : Config) (t : Option ValType) (body rest : Code) (os : List Num) → Runs m v (placed (Block t body rest) os c) (under_label t body (placed rest os c)) 1
+  pub loop : (m : Module) (v : View) (c : Config) (t : Option ValType) (body rest : Code) (os : List Num) → Runs m v (placed (Repeat t body rest) os c) (under_loop t body (placed rest os c)) 1
+  -- the end of what a label is round takes no instruction
+  pub ends : (m : Module) (v : View) (c : Config) (arity : ℕ) (branch code rest : Code) (os below : List Num) → Runs m v (placed Ends os (labelled arity branch code (placed rest below c))) (placed rest (os ++ below) c) 0
+  pub branch : (m : Module) (v : View) (c : Config) (n : ℕ) (l : Label) (rest : Code) (vs os : List Num) → slice_get c.frame.labels n ≡ Some l → length vs ≡ l.arity → Runs m v (placed (Plain (Br n) rest) (vs ++ os) c) (at_label l n vs c) 1
+  pub branch_if : (m : Module) (v : View) (c : Config) (n x : ℕ) (l : Label) (rest : Code) (vs os : List Num) → slice_get c.frame.labels n ≡ Some l → length vs ≡ l.arity → nat_eq x 0 ≡ false → Runs m v (placed (Plain (BrIf n) rest) (num.I32 x ∷ vs ++ os) c) (at_label l n vs c) 1
+  pub branch_if_not : (m : Module) (v : View) (c : Config) (n : ℕ) (rest : Code) (os : List Num) → Runs m v (placed (Plain (BrIf n) rest) (num.I32 0 ∷ os) c) (placed rest os c) 1
+  pub returns : (m : Module) (v : View) (c : Config) (rest : Code) (vs os : List Num) → length vs ≡ c.frame.arity → Runs m v (placed (Plain Return rest) (vs ++ os) c) (at_body_end vs c) 1
+  -- a return leaves its results to the frame below
+  pub body_end : (m : Module) (v : View) (c : Config) (f : Frame) (below : List Frame) (vs : List Num) → c.below ≡ f ∷ below → Runs m v (at_body_end vs c) (record c { frame = record f { operands = vs ++ f.operands }; below = below }) 0
+
+-- How sequences with blocks, loops and branches are typed wherever they stand. A branch finds its operands above others, the
+-- last type first.
+pub record BranchesAreTyped : Type 0 where
+  pub anywhere : (x : Context) (ls : List (List ValType)) (is : List Instr) (ts us : List ValType) → Takes x is ts us → TakesIn x ls is ts us
+  pub then : (x : Context) (ls : List (List ValType)) (is js : List Instr) (ts us vs : List ValType) → TakesIn x ls is ts us → TakesIn x ls js us vs → TakesIn x ls (is ++ js) ts vs
+  pub then_leaves : (x : Context) (ls : List (List ValType)) (is js : List Instr) (ts us : List ValType) → TakesIn x ls is ts us → LeavesIn x ls js us → LeavesIn x ls (is ++ js) ts
+  pub branch : (x : Context) (ls : List (List ValType)) (n : ℕ) (bs ts : List ValType) → slice_get ls n ≡ Some bs → LeavesIn x ls (Br n ∷ []) (reverse bs ++ ts)
+  pub branch_if : (x : Context) (ls : List (List ValType)) (n : ℕ) (bs ts : List ValType) → slice_get ls n ≡ Some bs → TakesIn x ls (BrIf n ∷ []) (I32 ∷ reverse bs ++ ts) (reverse bs ++ ts)
+  pub returns : (x : Context) (ls : List (List ValType)) (ts : List ValType) → LeavesIn x ls (Return ∷ []) (reverse x.returns ++ ts)
+  pub unreachable : (x : Context) (ls : List (List ValType)) (ts : List ValType) → LeavesIn x ls (Unreachable ∷ []) ts
+  pub block : (x : Context) (ls : List (List ValType)) (t : Option ValType) (is : List Instr) (ts : List ValType) → IsCodeOf x (option_to_list t ∷ ls) t is → TakesIn x ls (block_of t is) ts (option_to_list t ++ ts)
+  pub loop : (x : Context) (ls : List (List ValType)) (t : Option ValType) (is : List Instr) (ts : List ValType) → IsCodeOf x ([] ∷ ls) t is → TakesIn x ls (loop_of t is) ts (option_to_list t ++ ts)
+  pub one : (x : Context) (ls : List (List ValType)) (is : List Instr) (ts : List ValType) → IsCodeOf x ([] ∷ ls) None is → TakesIn x ls (if_block None is) (I32 ∷ ts) ts
+  pub two : (x : Context) (ls : List (List ValType)) (t : Option ValType) (is js : List Instr) (ts : List ValType) → IsCodeOf x (option_to_list t ∷ ls) t is → IsCodeOf x (option_to_list t ∷ ls) t js → TakesIn x ls (if_else_block t is js) (I32 ∷ ts) (option_to_list t ++ ts)
+
 -- a call of any module that ended stays ended, with the same record, under a larger bound
 abbrev pub ModulesStayEnded : Type 0
 ModulesStayEnded = (m : Module) (v : View) → StaysEnded (module_machine m v)
-
--- a place, for short
-abbrev pub refused_at : ℕ → ℕ → Option Place
-refused_at at code = Some (record { at = at; code = code })
-
--- what a body comes to that gives an i32 and has these parameters and locals
-abbrev pub checked_in : Module → List ValType → List Instr → Option Place
-checked_in m locals is = check_code (record { module_ = m; locals = locals }) 0 is [] (body_control (I32 ∷ [])) []
-
--- and with one i32 local
-abbrev pub checked_body : Module → List Instr → Option Place
-checked_body m is = checked_in m (I32 ∷ []) is
-
--- Which instruction of a body is refused first, and why.
-pub record RefusesFirst (m : Module) : Type 0 where
-  pub right : checked_body m (LocalGet 0 ∷ End ∷ []) ≡ None
-  -- there is no such local; the operand of an addition is missing; a result is missing; an operand is left over
-  pub index : checked_body m (LocalGet 0 ∷ LocalGet 1 ∷ I32Add ∷ End ∷ []) ≡ refused_at 1 no_index
-  pub operand : checked_body m (LocalGet 0 ∷ I32Add ∷ End ∷ []) ≡ refused_at 1 wrong_type
-  pub result : checked_body m (End ∷ []) ≡ refused_at 0 wrong_type
-  pub left_over : checked_body m (LocalGet 0 ∷ LocalGet 0 ∷ End ∷ []) ≡ refused_at 2 wrong_type
-  -- behind an unconditional branch operands are there as they are wanted, but not more
-  pub unreachable : checked_body m (Unreachable ∷ I32Add ∷ End ∷ []) ≡ None
-  pub unreachable_left_over : checked_body m (Unreachable ∷ I32Add ∷ LocalGet 0 ∷ End ∷ []) ≡ refused_at 3 wrong_type
-  -- a body stops at its end, and not before or behind it
-  pub no_end : checked_body m (LocalGet 0 ∷ []) ≡ refused_at 1 wrong_type
-  pub behind_end : checked_body m (LocalGet 0 ∷ End ∷ End ∷ []) ≡ refused_at 2 wrong_type
-  -- a comparison and a difference take two i32 and give one
-  pub less : checked_body m (LocalGet 0 ∷ I32Const (pos 7) ∷ I32LtU ∷ End ∷ []) ≡ None
-  pub less_operand : checked_body m (LocalGet 0 ∷ I32LtU ∷ End ∷ []) ≡ refused_at 1 wrong_type
-  pub difference : checked_body m (LocalGet 0 ∷ I32Const (pos 7) ∷ I32Sub ∷ End ∷ []) ≡ None
-  pub difference_type : checked_in m (I32 ∷ I64 ∷ []) (LocalGet 0 ∷ LocalGet 1 ∷ I32Sub ∷ End ∷ []) ≡ refused_at 2 wrong_type
-  -- a local that is set takes an operand of its type, and leaves none
-  pub set : checked_body m (I32Const (pos 7) ∷ LocalSet 0 ∷ LocalGet 0 ∷ End ∷ []) ≡ None
-  pub set_index : checked_body m (I32Const (pos 7) ∷ LocalSet 1 ∷ LocalGet 0 ∷ End ∷ []) ≡ refused_at 1 no_index
-  pub set_operand : checked_body m (LocalSet 0 ∷ LocalGet 0 ∷ End ∷ []) ≡ refused_at 0 wrong_type
-  pub set_type : checked_in m (I32 ∷ I64 ∷ []) (LocalGet 0 ∷ LocalSet 1 ∷ LocalGet 0 ∷ End ∷ []) ≡ refused_at 1 wrong_type
-  pub set_result : checked_body m (LocalGet 0 ∷ LocalSet 0 ∷ End ∷ []) ≡ refused_at 2 wrong_type
-
--- The same of choices.
-pub record RefusesInChoices (m : Module) : Type 0 where
-  -- with a result, by either code; without one, and with no second code
-  pub both : checked_body m (LocalGet 0 ∷ If (Some I32) ∷ I32Const (pos 7) ∷ Else ∷ LocalGet 0 ∷ End ∷ End ∷ []) ≡ None
-  pub one : checked_body m (LocalGet 0 ∷ If None ∷ I32Const (pos 7) ∷ LocalSet 0 ∷ End ∷ LocalGet 0 ∷ End ∷ []) ≡ None
-  pub empty_else : checked_body m (LocalGet 0 ∷ If None ∷ Else ∷ End ∷ LocalGet 0 ∷ End ∷ []) ≡ None
-  -- where there is no second code, there is no result
-  pub no_else : checked_body m (LocalGet 0 ∷ If (Some I32) ∷ LocalGet 0 ∷ End ∷ End ∷ []) ≡ refused_at 3 wrong_type
-  pub unreachable_no_else : checked_body m (LocalGet 0 ∷ If (Some I32) ∷ Unreachable ∷ End ∷ End ∷ []) ≡ refused_at 3 wrong_type
-  -- the operand is missing, or has another type
-  pub operand : checked_body m (If None ∷ End ∷ LocalGet 0 ∷ End ∷ []) ≡ refused_at 0 wrong_type
-  pub operand_type : checked_in m (I32 ∷ I64 ∷ []) (LocalGet 1 ∷ If None ∷ End ∷ LocalGet 0 ∷ End ∷ []) ≡ refused_at 1 wrong_type
-  -- the result of the first code or of the second is missing, or has another type
-  pub first_result : checked_body m (LocalGet 0 ∷ If (Some I32) ∷ Else ∷ LocalGet 0 ∷ End ∷ End ∷ []) ≡ refused_at 2 wrong_type
-  pub second_result : checked_body m (LocalGet 0 ∷ If (Some I32) ∷ LocalGet 0 ∷ Else ∷ End ∷ End ∷ []) ≡ refused_at 4 wrong_type
-  pub result_type : checked_in m (I32 ∷ I64 ∷ []) (LocalGet 0 ∷ If (Some I32) ∷ LocalGet 1 ∷ Else ∷ LocalGet 0 ∷ End ∷ End ∷ []) ≡ refused_at 3 wrong_type
-  -- an operand is left over in the first code or in the second
-  pub first_left_over : checked_body m (LocalGet 0 ∷ If None ∷ LocalGet 0 ∷ End ∷ LocalGet 0 ∷ End ∷ []) ≡ refused_at 3 wrong_type
-  pub second_left_over : checked_body m (LocalGet 0 ∷ If None ∷ Else ∷ LocalGet 0 ∷ End ∷ LocalGet 0 ∷ End ∷ []) ≡ refused_at 4 wrong_type
-  -- the operands below are out of reach inside, and there again behind the end
-  pub below : checked_body m (LocalGet 0 ∷ LocalGet 0 ∷ If (Some I32) ∷ LocalGet 0 ∷ I32Add ∷ Else ∷ LocalGet 0 ∷ End ∷ I32Add ∷ End ∷ []) ≡ refused_at 4 wrong_type
-  pub behind : checked_body m (LocalGet 0 ∷ LocalGet 0 ∷ If (Some I32) ∷ LocalGet 0 ∷ Else ∷ LocalGet 0 ∷ End ∷ I32Add ∷ End ∷ []) ≡ None
-  -- code out of reach ends with the code that it is in
-  pub unreachable : checked_body m (LocalGet 0 ∷ If None ∷ Unreachable ∷ End ∷ End ∷ []) ≡ refused_at 4 wrong_type
-  pub unreachable_first : checked_body m (LocalGet 0 ∷ If (Some I32) ∷ Unreachable ∷ Else ∷ End ∷ End ∷ []) ≡ refused_at 4 wrong_type
-  pub unreachable_outside : checked_body m (Unreachable ∷ If None ∷ End ∷ End ∷ []) ≡ None
-  -- an `else` stands in an `if`, and once
-  pub else_alone : checked_body m (LocalGet 0 ∷ Else ∷ LocalGet 0 ∷ End ∷ []) ≡ refused_at 1 wrong_type
-  pub else_again : checked_body m (LocalGet 0 ∷ If None ∷ Else ∷ Else ∷ End ∷ LocalGet 0 ∷ End ∷ []) ≡ refused_at 3 wrong_type
-  -- the `if` has its own end
-  pub no_end : checked_body m (LocalGet 0 ∷ If None ∷ LocalGet 0 ∷ End ∷ []) ≡ refused_at 3 wrong_type
-
--- The module with other functions and globals: function 0 is imported, takes an i32 and gives nothing; function 1 takes an
--- i32 and an i64, and gives an i32. Global 0 is an i32 that isn't mutable, and global 1 one that is.
-abbrev pub with_functions : Module → FuncImport → Module
-with_functions m i = record m {
-  types = record { params = I32 ∷ I64 ∷ []; result = Some I32 } ∷ record { params = I32 ∷ []; result = None } ∷ [];
-  imports = record i { ty = 1 } ∷ [];
-  funcs = 0 ∷ [];
-  globals = record { ty = I32; mutable = false; init = I32Const (pos 7) ∷ End ∷ [] } ∷ record { ty = I32; mutable = true; init = I32Const (pos 0) ∷ End ∷ [] } ∷ [];
-}
-
--- what a body of this module comes to that has an i32 and an i64 local
-abbrev pub checked_with : Module → FuncImport → List Instr → Option Place
-checked_with m i is = checked_in (with_functions m i) (I32 ∷ I64 ∷ []) is
-
--- The same of calls and globals.
-pub record RefusesCalls (m : Module) (i : FuncImport) : Type 0 where
-  -- the arguments stand in the order of the parameters, under the function's result
-  pub call : checked_with m i (LocalGet 0 ∷ LocalGet 1 ∷ instr.Call 1 ∷ End ∷ []) ≡ None
-  pub imported : checked_with m i (LocalGet 0 ∷ instr.Call 0 ∷ LocalGet 0 ∷ End ∷ []) ≡ None
-  pub order : checked_with m i (LocalGet 1 ∷ LocalGet 0 ∷ instr.Call 1 ∷ End ∷ []) ≡ refused_at 2 wrong_type
-  -- one argument is missing; one is left over; there is no result, or one too many
-  pub argument : checked_with m i (LocalGet 1 ∷ instr.Call 1 ∷ End ∷ []) ≡ refused_at 1 wrong_type
-  pub left_over : checked_with m i (LocalGet 0 ∷ LocalGet 0 ∷ LocalGet 1 ∷ instr.Call 1 ∷ End ∷ []) ≡ refused_at 4 wrong_type
-  pub result : checked_with m i (LocalGet 0 ∷ instr.Call 0 ∷ End ∷ []) ≡ refused_at 2 wrong_type
-  pub result_too : checked_with m i (LocalGet 0 ∷ LocalGet 0 ∷ LocalGet 1 ∷ instr.Call 1 ∷ I32Add ∷ End ∷ []) ≡ None
-  -- there is no such function
-  pub func_index : checked_with m i (LocalGet 0 ∷ instr.Call 2 ∷ End ∷ []) ≡ refused_at 1 no_index
-  -- any global is read, and one that is mutable is written
-  pub read : checked_with m i (GlobalGet 0 ∷ GlobalGet 1 ∷ I32Add ∷ End ∷ []) ≡ None
-  pub written : checked_with m i (LocalGet 0 ∷ GlobalSet 1 ∷ GlobalGet 1 ∷ End ∷ []) ≡ None
-  pub immutable : checked_with m i (LocalGet 0 ∷ GlobalSet 0 ∷ GlobalGet 0 ∷ End ∷ []) ≡ refused_at 1 wrong_type
-  -- the value is missing, or has another type; there is no such global
-  pub value : checked_with m i (GlobalSet 1 ∷ GlobalGet 1 ∷ End ∷ []) ≡ refused_at 0 wrong_type
-  pub value_type : checked_with m i (LocalGet 1 ∷ GlobalSet 1 ∷ GlobalGet 1 ∷ End ∷ []) ≡ refused_at 1 wrong_type
-  pub global_index : checked_with m i (LocalGet 0 ∷ GlobalSet 2 ∷ LocalGet 0 ∷ End ∷ []) ≡ refused_at 1 no_index
-  pub read_index : checked_with m i (GlobalGet 2 ∷ End ∷ []) ≡ refused_at 0 no_index
-
--- in every module
-pub record BodiesAreTyped : Type 0 where
-  pub bodies : (m : Module) → RefusesFirst m
-  pub choices : (m : Module) → RefusesInChoices m
-  pub calls : (m : Module) (i : FuncImport) → RefusesCalls m i
 
 -- A flat list spells the code that it is read as.
 pub record HasCode (is : List Instr) : Type 0 where
@@ -155,10 +74,14 @@ pub record CodeIsStructured : Type 0 where
   pub behind_end : code_of (LocalGet 0 ∷ End ∷ LocalGet 1 ∷ End ∷ []) ≡ Plain (LocalGet 0) Ends
   -- one code, and two; what follows is behind the choice
   pub one : code_of (LocalGet 0 ∷ If None ∷ Unreachable ∷ End ∷ LocalGet 1 ∷ End ∷ []) ≡ Plain (LocalGet 0) (Choice None (Plain Unreachable Ends) Ends (Plain (LocalGet 1) Ends))
-  pub two : code_of (LocalGet 0 ∷ If (Some I32) ∷ LocalGet 1 ∷ Else ∷ LocalGet 2 ∷ LocalGet 3 ∷ I32Add ∷ End ∷ LocalSet 4 ∷ End ∷ []) ≡ Plain (LocalGet 0) (Choice (Some I32) (Plain (LocalGet 1) Ends) (Plain (LocalGet 2) (Plain (LocalGet 3) (Plain I32Add Ends))) (Plain (LocalSet 4) Ends))
+  pub two : code_of (LocalGet 0 ∷ If (Some I32) ∷ LocalGet 1 ∷ Else ∷ LocalGet 2 ∷ LocalGet 3 ∷ i32_add ∷ End ∷ LocalSet 4 ∷ End ∷ []) ≡ Plain (LocalGet 0) (Choice (Some I32) (Plain (LocalGet 1) Ends) (Plain (LocalGet 2) (Plain (LocalGet 3) (Plain i32_add Ends))) (Plain (LocalSet 4) Ends))
   pub empty : code_of (If None ∷ Else ∷ End ∷ End ∷ []) ≡ Choice None Ends Ends Ends
   -- one after the other, and one in the other: an `else` belongs to the innermost `if` that is open
   pub in_turn : code_of (If None ∷ LocalGet 0 ∷ End ∷ If (Some I64) ∷ LocalGet 1 ∷ Else ∷ LocalGet 2 ∷ End ∷ End ∷ []) ≡ Choice None (Plain (LocalGet 0) Ends) Ends (Choice (Some I64) (Plain (LocalGet 1) Ends) (Plain (LocalGet 2) Ends) Ends)
   pub nested : code_of (If None ∷ LocalGet 0 ∷ If (Some I32) ∷ LocalGet 1 ∷ Else ∷ LocalGet 2 ∷ End ∷ LocalSet 3 ∷ End ∷ LocalGet 4 ∷ End ∷ []) ≡ Choice None (Plain (LocalGet 0) (Choice (Some I32) (Plain (LocalGet 1) Ends) (Plain (LocalGet 2) Ends) (Plain (LocalSet 3) Ends))) Ends (Plain (LocalGet 4) Ends)
   pub outer_else : code_of (If None ∷ If None ∷ LocalGet 0 ∷ End ∷ LocalGet 1 ∷ Else ∷ LocalGet 2 ∷ End ∷ LocalGet 3 ∷ End ∷ []) ≡ Choice None (Choice None (Plain (LocalGet 0) Ends) Ends (Plain (LocalGet 1) Ends)) (Plain (LocalGet 2) Ends) (Plain (LocalGet 3) Ends)
   pub in_else : code_of (If None ∷ LocalGet 0 ∷ Else ∷ If None ∷ LocalGet 1 ∷ Else ∷ LocalGet 2 ∷ End ∷ LocalGet 3 ∷ End ∷ End ∷ []) ≡ Choice None (Plain (LocalGet 0) Ends) (Choice None (Plain (LocalGet 1) Ends) (Plain (LocalGet 2) Ends) (Plain (LocalGet 3) Ends)) Ends
+  -- blocks and loops, in turn, in one another, and in an `if`
+  pub block : code_of (instr.Block (Some I32) ∷ LocalGet 0 ∷ End ∷ LocalGet 1 ∷ End ∷ []) ≡ Block (Some I32) (Plain (LocalGet 0) Ends) (Plain (LocalGet 1) Ends)
+  pub loop : code_of (instr.Block None ∷ Loop None ∷ Br 0 ∷ End ∷ Br 1 ∷ End ∷ LocalGet 0 ∷ End ∷ []) ≡ Block None (Repeat None (Plain (Br 0) Ends) (Plain (Br 1) Ends)) (Plain (LocalGet 0) Ends)
+  pub block_in_if : code_of (If None ∷ instr.Block None ∷ LocalGet 0 ∷ End ∷ Else ∷ Loop None ∷ End ∷ LocalGet 1 ∷ End ∷ End ∷ []) ≡ Choice None (Block None (Plain (LocalGet 0) Ends) Ends) (Repeat None Ends (Plain (LocalGet 1) Ends)) Ends

@@ -1,4 +1,3 @@
-pub mod Leb
 pub mod Opcodes
 pub mod Spelling
 pub mod ModuleBytes
@@ -7,12 +6,17 @@ pub mod WellFormed
 pub mod Functions
 pub mod Typing
 pub mod Validity
+pub mod Numerics
+pub mod Accesses
 pub mod Structure
 pub mod Signature
 pub mod Reduction
 pub mod ModuleMachine
 pub mod Computed
 pub mod Sequences
+pub mod WorkedNumbers
+pub mod WorkedBodies
+pub mod WorkedModules
 pub mod WorkedRuns
 pub mod Laws
 pub mod Writing

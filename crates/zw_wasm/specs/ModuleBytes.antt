@@ -13,12 +13,10 @@ use Rattle.zw_wasm.specs.declared.module.Element.{Element}
 use Rattle.zw_wasm.specs.declared.module.DataSegment.{DataSegment}
 use Rattle.zw_wasm.specs.declared.module.CodeBody.{CodeBody}
 use Rattle.zw_wasm.specs.declared.module.Instr.{Instr}
-use Rattle.zw_wasm.specs.declared.module.Instr.TheVariants.{If, Else, End}
+use Rattle.zw_wasm.specs.declared.module.Instr.TheVariants.{Block, Loop, If, Else, End}
 use Rattle.zw_wasm.specs.declared.module.Module.{Module}
-use Rattle.zw_wasm.specs.declared.encode.instructions.Immediate.{Immediate}
-use Rattle.zw_wasm.specs.declared.encode.instructions.Immediate.TheVariants.{Nothing, BlockType, Index, Signed32}
-use Rattle.zw_wasm.specs.Leb.{IsUnsigned, IsSigned}
-use Rattle.zw_wasm.specs.Opcodes.{opcode, immediate_of}
+use Rattle.zw_leb.specs.Leb.{IsUnsigned, IsSigned}
+use Rattle.zw_wasm.specs.Opcodes.{Immediate, Nothing, BlockType, Index, Labels, IndexAndZero, Zero, Memory, Signed32, Signed64, opcode, immediate_of}
 
 -- ---- what bytes may be
 
@@ -53,6 +51,10 @@ IsU32 n bytes = IsUnsigned 32 bytes n
 -- a signed number of 32 bits
 abbrev pub IsS32 : ℤ → List ℕ → Type 0
 IsS32 z bytes = IsSigned 32 bytes z
+
+-- a signed number of 64 bits
+abbrev pub IsS64 : ℤ → List ℕ → Type 0
+IsS64 z bytes = IsSigned 64 bytes z
 
 -- what stands for each item, one after another
 abbrev pub EachInTurn : {X : Type 0} → (X → List ℕ → Type 0) → List X → List ℕ → Type 0
@@ -124,7 +126,12 @@ abbrev pub IsImmediate : Immediate → List ℕ → Type 0
 IsImmediate Nothing = Exactly []
 IsImmediate (BlockType result) = IsBlockType result
 IsImmediate (Index index) = IsU32 index
+IsImmediate (Labels labels default) = IsVector IsU32 labels ⌢ IsU32 default
+IsImmediate (IndexAndZero index) = IsU32 index ⌢ Byte 0x00
+IsImmediate Zero = Byte 0x00
+IsImmediate (Memory at) = IsU32 at.align ⌢ IsU32 at.offset
 IsImmediate (Signed32 z) = IsS32 z
+IsImmediate (Signed64 z) = IsS64 z
 
 -- an instruction (5.4)
 abbrev pub IsInstruction : Instr → List ℕ → Type 0
@@ -134,6 +141,8 @@ IsInstruction i = Byte (opcode i) ⌢ IsImmediate (immediate_of i)
 -- is open stands whether its `else` may come: it may once, behind an `if` (5.4.1).
 abbrev pub ClosesIn : List Bool → List Instr → Type 0
 ClosesIn open_ifs [] = ⊥
+ClosesIn open_ifs (Block result ∷ instrs) = ClosesIn (false ∷ open_ifs) instrs
+ClosesIn open_ifs (Loop result ∷ instrs) = ClosesIn (false ∷ open_ifs) instrs
 ClosesIn open_ifs (If result ∷ instrs) = ClosesIn (true ∷ open_ifs) instrs
 ClosesIn (true ∷ outer) (Else ∷ instrs) = ClosesIn (false ∷ outer) instrs
 ClosesIn open_ifs (Else ∷ instrs) = ⊥

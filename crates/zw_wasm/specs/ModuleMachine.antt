@@ -1,6 +1,6 @@
 -- ModuleMachine: a module as a machine of sessions. A call of an exported function from a store runs its code for a
 -- bounded number of instructions; what a session may see of it is its result, its host calls, or how it halted.
-use Rattle.std.specs.Prelude.{ℕ, suc, pos, negsuc, ◌+◌, ◌*◌, ◌-◌, ◌%◌, ◌^◌, Bool, true, false, ◌&&◌, nat_eq, nat_le, List, [], ◌∷◌, ◌++◌, length, map, take, drop, replicate, codes, Option, Some, None, is_some, slice_get, if◌then◌else◌}
+use Rattle.std.specs.Prelude.{ℕ, suc, pos, negsuc, ◌*◌, ◌-◌, ◌%◌, ◌^◌, Bool, true, false, ◌&&◌, nat_eq, nat_le, List, [], ◌∷◌, map, replicate, codes, Option, Some, None, is_some, slice_get, if◌then◌else◌}
 use Rattle.std.specs.Str.{bytes_eq}
 use Rattle.zw_session.specs.Causes.{message_cause, last_cause}
 use Rattle.zw_session.specs.Sessions.{Scalar, Number, Truth, Call, Halt, Panicked, WantsReply, Running, Trapped, CallEnd, Returned, Halted, Outcome, Machine}
@@ -10,48 +10,50 @@ use Rattle.zw_wasm.specs.declared.module.ExportDef.{ExportDef}
 use Rattle.zw_wasm.specs.declared.module.FuncType.{FuncType}
 use Rattle.zw_wasm.specs.declared.module.GlobalDef.{GlobalDef}
 use Rattle.zw_wasm.specs.declared.module.Instr.{Instr}
-use Rattle.zw_wasm.specs.declared.module.Instr.TheVariants.{I32Const}
+use Rattle.zw_wasm.specs.declared.module.Instr.TheVariants.{GlobalGet, I32Const, I64Const}
 use Rattle.zw_wasm.specs.declared.module.Limits.{Limits}
 use Rattle.zw_wasm.specs.declared.module.Module.{Module}
 use Rattle.zw_wasm.specs.declared.module.TheConstants.ExportDef.{FUNC, GLOBAL}
 use Rattle.zw_wasm.specs.declared.module.ValType.{ValType}
 use Rattle.zw_wasm.specs.declared.module.ValType.TheVariants as ty
-use Rattle.zw_wasm.specs.Reduction.{Store, World, Frame, Config, Step, Next, Stops, Rests, Stop, Finished, Trap, NoReply, Run, Going, Ended, enter, resolved, run, no_rule, unreachable_trap}
+use Rattle.zw_wasm.specs.Reduction.{Store, World, overwritten, page_size, Frame, Config, Step, Next, Stops, Rests, Stop, Finished, Trap, NoReply, Run, Going, Ended, enter, resolved, run, no_rule, unreachable_trap}
 use Rattle.zw_wasm.specs.Signature.{Reading, Signature, View, scalar_of, is_in_range, bytes_at}
-use Rattle.zw_wasm.specs.Structure.{Num, I32, I64, Ends, num_of, bits_of, word_of}
+use Rattle.zw_wasm.specs.Structure.{Num, I32, I64, Ends, num_of, bits_of, long_of, word_of}
 use Rattle.zw_wasm.specs.Functions.{func_type}
 
--- the bits of a constant expression (4.4.8)
-abbrev pub constant_of : List Instr → ℕ
-constant_of (I32Const z ∷ is) = word_of z
-constant_of _ = 0
+-- the bits of a constant expression, with these values of globals (4.4.8)
+abbrev pub global_bits : Option Num → ℕ
+global_bits None = 0
+global_bits (Some v) = bits_of v
 
--- the list with these items from this place on
-abbrev pub overwritten : {A : Type 0} → List A → ℕ → List A → List A
-overwritten xs at ys = take at xs ++ ys ++ drop (at + length ys) xs
-
--- how many bytes a page has (4.2.8)
-abbrev pub page_size : ℕ
-page_size = 65536
+abbrev pub constant_of : List Num → List Instr → ℕ
+constant_of globals (I32Const z ∷ is) = word_of z
+constant_of globals (I64Const z ∷ is) = long_of z
+constant_of globals (GlobalGet n ∷ is) = global_bits (slice_get globals n)
+constant_of globals _ = 0
 
 abbrev pub first_sizes : List Limits → ℕ
 first_sizes [] = 0
 first_sizes (l ∷ ls) = l.least
 
-abbrev pub with_segments : List DataSegment → List ℕ → List ℕ
-with_segments [] memory = memory
-with_segments (d ∷ ds) memory = with_segments ds (overwritten memory (constant_of d.at) d.bytes)
+abbrev pub with_segments : List Num → List DataSegment → List ℕ → List ℕ
+with_segments globals [] memory = memory
+with_segments globals (d ∷ ds) memory = with_segments globals ds (overwritten memory (constant_of globals d.at) d.bytes)
 
-abbrev pub with_elements : List Element → List (Option ℕ) → List (Option ℕ)
-with_elements [] table = table
-with_elements (e ∷ es) table = with_elements es (overwritten table (constant_of e.at) (map (λ f. Some f) e.funcs))
+abbrev pub with_elements : List Num → List Element → List (Option ℕ) → List (Option ℕ)
+with_elements globals [] table = table
+with_elements globals (e ∷ es) table = with_elements globals es (overwritten table (constant_of globals e.at) (map (λ f. Some f) e.funcs))
+
+-- the values that the globals begin with, of which none names another
+abbrev pub first_values : Module → List Num
+first_values m = map (λ (g : GlobalDef). num_of g.ty (constant_of [] g.init)) m.globals
 
 -- the store that a module begins with (4.5.4): zeros, but for its segments
 abbrev pub first_store : Module → Store
 first_store m = record {
-  globals = map (λ (g : GlobalDef). num_of g.ty (constant_of g.init)) m.globals;
-  memory = with_segments m.datas (replicate (first_sizes m.memories * page_size) 0);
-  table = with_elements m.elements (replicate (first_sizes m.tables) None);
+  globals = first_values m;
+  memory = with_segments (first_values m) m.datas (replicate (first_sizes m.memories * page_size) 0);
+  table = with_elements (first_values m) m.elements (replicate (first_sizes m.tables) None);
 }
 
 -- the number of what is exported as this kind under this name
@@ -75,7 +77,7 @@ arg_nums (t ∷ ts) (a ∷ args) = bits_of_scalar t a ∷ arg_nums ts args
 
 -- the host's own frame, over which an exported function runs
 abbrev pub host_frame : Frame
-host_frame = record { func = 0; locals = []; operands = []; code = Ends; labels = [] }
+host_frame = record { func = 0; arity = 0; locals = []; operands = []; code = Ends; labels = [] }
 
 -- before a call from outside
 abbrev pub idle : World → Config
@@ -135,7 +137,7 @@ trap_halt m store code =
 abbrev pub value_of : Option Reading → List Num → Option Scalar
 value_of None results = None
 value_of (Some r) [] = None
-value_of (Some r) (n ∷ results) = Some (scalar_of r (bits_of n))
+value_of (Some r) (n ∷ results) = Some (scalar_of r n)
 
 abbrev pub result_reading : Option Signature → Option Reading
 result_reading None = None

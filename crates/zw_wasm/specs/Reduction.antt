@@ -1,19 +1,32 @@
 -- Reduction: what a module's code does, one instruction at a time (WebAssembly Core Specification 1.0, chapter 4). A
 -- configuration holds the place in the code as labels and frames round it, so that a step looks at no more than what
 -- stands next.
-use Rattle.std.specs.Prelude.{ℕ, zero, suc, ◌+◌, ◌-◌, ◌%◌, ◌^◌, nat_eq, nat_le, nat_lt, List, [], ◌∷◌, ◌++◌, length, take, drop, reverse, Option, Some, None, slice_get, slice_set, if◌then◌else◌}
+use Rattle.std.specs.Prelude.{ℕ, zero, suc, ◌+◌, ◌-◌, ◌*◌, ◌/◌, ◌^◌, min, Bool, true, false, ◌&&◌, ◌||◌, nat_eq, nat_le, nat_lt, List, [], ◌∷◌, ◌++◌, length, take, drop, reverse, replicate, Option, Some, None, slice_get, slice_set, if◌then◌else◌}
+use Rattle.std.specs.Int.{w32, w64, byte_len}
 use Rattle.std.specs.Option.{option_to_list}
 use Rattle.zw_session.specs.Sessions.{HostEvent}
 use Rattle.zw_wasm.specs.declared.module.CodeBody.{CodeBody}
 use Rattle.zw_wasm.specs.declared.module.FuncImport.{FuncImport}
 use Rattle.zw_wasm.specs.declared.module.FuncType.{FuncType}
 use Rattle.zw_wasm.specs.declared.module.Instr.{Instr}
-use Rattle.zw_wasm.specs.declared.module.Instr.TheVariants.{Unreachable, If, Else, End, Call, LocalGet, LocalSet, GlobalGet, GlobalSet, I32Const, I32LtU, I32Add, I32Sub}
+use Rattle.zw_wasm.specs.declared.module.Instr.TheVariants as instr
+use Rattle.zw_wasm.specs.declared.module.BinaryOperator.{BinaryOperator}
+use Rattle.zw_wasm.specs.declared.module.Comparison.{Comparison}
+use Rattle.zw_wasm.specs.declared.module.Conversion.{Conversion}
+use Rattle.zw_wasm.specs.declared.module.Conversion.TheVariants.{Wrap, ExtendS, ExtendU}
+use Rattle.zw_wasm.specs.declared.module.Limits.{Limits}
+use Rattle.zw_wasm.specs.declared.module.LoadKind.{LoadKind}
+use Rattle.zw_wasm.specs.declared.module.StoreKind.{StoreKind}
+use Rattle.zw_wasm.specs.declared.module.UnaryOperator.{UnaryOperator}
 use Rattle.zw_wasm.specs.declared.module.Module.{Module}
 use Rattle.zw_wasm.specs.declared.module.ValType.{ValType}
-use Rattle.zw_wasm.specs.Signature.{View, shown_scalars, shown_ranges}
-use Rattle.zw_wasm.specs.Structure.{Num, I32, I64, Code, Ends, Plain, Choice, code_of, num_of, word_of, zeros}
+use Rattle.zw_wasm.specs.declared.module.ValType.TheVariants as ty
+use Rattle.zw_wasm.specs.Accesses.{bits_loaded, bytes_stored, load_type, load_width, store_type}
 use Rattle.zw_wasm.specs.Functions.{func_type}
+use Rattle.zw_wasm.specs.Numerics.{Answer, Gives, DividesByZero, Overflows, binary_of, bit_of, extend_s, is_related, unary_of, wrap}
+use Rattle.zw_wasm.specs.Signature.{View, bytes_at, shown_scalars, shown_ranges}
+use Rattle.zw_wasm.specs.Structure.{Num, I32, I64, Code, Ends, Plain, Choice, Block, Repeat, code_of, long_of, num_of, number, width_of, word_of, zeros}
+use Rattle.zw_wasm.specs.Typing.{converts_from, same_types}
 
 -- What all frames share (4.2.3): the values of the globals, the bytes of the memory, and the table's functions, of
 -- which some may not be set.
@@ -30,10 +43,11 @@ pub record Label : Type 0 where
   pub follows : Code
   pub below : List Num
 
--- A frame (4.2.12): its function's number, its parameters and locals, the operands in its innermost label, the last first,
--- the code that is left there, and its labels, the innermost first.
+-- A frame (4.2.12): its function's number, how many results it returns, its parameters and locals, the operands in its
+-- innermost label, the last first, the code that is left there, and its labels, the innermost first.
 pub record Frame : Type 0 where
   pub func : ℕ
+  pub arity : ℕ
   pub locals : List Num
   pub operands : List Num
   pub code : Code
@@ -80,27 +94,41 @@ frames_trap = 7
 abbrev pub max_frames : ℕ
 max_frames = 2100
 
--- what is executed in one step: an instruction, or the choice that an `if` makes of two sequences
+-- how many bytes a page of memory has (4.2.8), and how many pages no memory grows past
+abbrev pub page_size : ℕ
+page_size = 65536
+
+abbrev pub most_pages : ℕ
+most_pages = 16384
+
+-- what is executed in one step: an instruction, the choice that an `if` makes of two sequences, or the beginning of the code
+-- of a block or a loop
 pub data Work : Type 0 where
   Single : (instr : Instr) → Work
   Chooses : (result : Option ValType) (then_code else_code : Code) → Work
+  Begins : (result : Option ValType) (body : Code) → Work
+  BeginsLoop : (result : Option ValType) (body : Code) → Work
 
 -- what stands next in a frame, behind the ends of labels: some work, in the frame behind it; or the frame's end
 pub data Stands : Type 0 where
   Does : (work : Work) (frame : Frame) → Stands
   Returns : (results : List Num) → Stands
 
+-- the frame with these operands, code and labels
+abbrev pub at_work : Frame → List Num → Code → List Label → Frame
+at_work f os code ls = record f { operands = os; code = code; labels = ls }
+
 -- An end takes no step (4.4.6.2, 4.4.7.2).
-abbrev pub stands_next : ℕ → List Num → Code → List Num → List Label → Stands
-stands_next f locals (Plain i rest) os ls =
-    Does (Single i) (record { func = f; locals = locals; operands = os; code = rest; labels = ls })
-stands_next f locals (Choice result a b rest) os ls =
-    Does (Chooses result a b) (record { func = f; locals = locals; operands = os; code = rest; labels = ls })
-stands_next f locals Ends os (l ∷ ls) = stands_next f locals l.follows (os ++ l.below) ls
-stands_next f locals Ends os [] = Returns os
+abbrev pub stands_next : Frame → Code → List Num → List Label → Stands
+stands_next f (Plain i rest) os ls = Does (Single i) (at_work f os rest ls)
+stands_next f (Choice result a b rest) os ls = Does (Chooses result a b) (at_work f os rest ls)
+stands_next f (Block result body rest) os ls = Does (Begins result body) (at_work f os rest ls)
+stands_next f (Repeat result body rest) os ls = Does (BeginsLoop result body) (at_work f os rest ls)
+stands_next f Ends os (l ∷ ls) = stands_next f l.follows (os ++ l.below) ls
+stands_next f Ends os [] = Returns os
 
 abbrev pub stands_in : Frame → Stands
-stands_in f = stands_next f.func f.locals f.code f.operands f.labels
+stands_in f = stands_next f f.code f.operands f.labels
 
 -- what comes next: some work, in the frame behind it over those below; or the end of the outermost frame
 pub data Fetched : Type 0 where
@@ -149,29 +177,157 @@ with_global n v c =
     then Goes (record c { world = record c.world { store = record c.world.store { globals = slice_set c.world.store.globals n v } } })
     else Traps no_rule
 
--- an operator on two i32 (4.4.1.3)
-abbrev pub on_two_i32 : (ℕ → ℕ → Num) → List Num → Config → Action
-on_two_i32 f (I32 y ∷ I32 x ∷ os) c = Goes (with_operands (f x y ∷ os) c)
-on_two_i32 f _ c = Traps no_rule
+-- the same where the value stays (4.4.3.3)
+abbrev pub with_local_too : ℕ → Num → Config → Action
+with_local_too n v c = with_local n v (pushed v c)
 
--- the sum modulo 2^32 (4.3.2)
-abbrev pub i32_add : ℕ → ℕ → Num
-i32_add x y = I32 ((x + y) % 2 ^ 32)
+-- ---- numbers (4.4.1)
 
--- the difference modulo 2^32
-abbrev pub i32_sub : ℕ → ℕ → Num
-i32_sub x y = I32 ((x + (2 ^ 32 - y)) % 2 ^ 32)
+-- what comes of an operator's answer: a number of this type
+abbrev pub answered : ValType → Answer → Config → Action
+answered t (Gives n) c = Goes (pushed (number t n) c)
+answered t DividesByZero c = Traps zero_divisor_trap
+answered t Overflows c = Traps overflow_trap
 
--- whether the first is less than the second, without signs
-abbrev pub i32_lt_u : ℕ → ℕ → Num
-i32_lt_u x y = I32 (if nat_lt x y then 1 else 0)
+-- on the bits of the last operand, or of the last two, which are of this type
+abbrev pub on_one : ValType → (ℕ → Config → Action) → List Num → Config → Action
+on_one ty.I32 go (I32 x ∷ os) c = go x (with_operands os c)
+on_one ty.I64 go (I64 x ∷ os) c = go x (with_operands os c)
+on_one t go _ c = Traps no_rule
 
--- a function's body, by the number among those that have one
-abbrev pub entered : Option CodeBody → ℕ → List Num → Config → Action
-entered None f args c = Traps no_rule
-entered (Some b) f args c =
+abbrev pub on_two : ValType → (ℕ → ℕ → Config → Action) → List Num → Config → Action
+on_two ty.I32 go (I32 y ∷ I32 x ∷ os) c = go x y (with_operands os c)
+on_two ty.I64 go (I64 y ∷ I64 x ∷ os) c = go x y (with_operands os c)
+on_two t go _ c = Traps no_rule
+
+abbrev pub tested : ℕ → Config → Action
+tested x c = Goes (pushed (I32 (bit_of (nat_eq x 0))) c)
+
+abbrev pub compared : ValType → Comparison → ℕ → ℕ → Config → Action
+compared t comparison x y c = Goes (pushed (I32 (bit_of (is_related comparison (width_of t) x y))) c)
+
+abbrev pub computed : ValType → UnaryOperator → ℕ → Config → Action
+computed t operator x c = Goes (pushed (number t (unary_of operator (width_of t) x)) c)
+
+abbrev pub operated : ValType → BinaryOperator → ℕ → ℕ → Config → Action
+operated t operator x y c = answered t (binary_of operator (width_of t) x y) c
+
+abbrev pub conversion_of : Conversion → ℕ → Num
+conversion_of Wrap x = I32 (wrap w32 x)
+conversion_of ExtendS x = I64 (extend_s w32 w64 x)
+conversion_of ExtendU x = I64 x
+
+abbrev pub converted : Conversion → ℕ → Config → Action
+converted conversion x c = Goes (pushed (conversion_of conversion x) c)
+
+-- ---- single operands (4.4.2)
+
+abbrev pub dropped : Num → Config → Action
+dropped v c = Goes c
+
+-- the first of two operands where the i32 behind them isn't 0, else the second (4.4.2.2)
+abbrev pub selected : List Num → Config → Action
+selected (I32 n ∷ y ∷ x ∷ os) c = Goes (with_operands ((if nat_eq n 0 then y else x) ∷ os) c)
+selected _ c = Traps no_rule
+
+-- ---- memory (4.4.4)
+
+-- the list with these items from this place on
+abbrev pub overwritten : {A : Type 0} → List A → ℕ → List A → List A
+overwritten xs at ys = take at xs ++ ys ++ drop (at + length ys) xs
+
+abbrev pub with_memory : List ℕ → Config → Config
+with_memory memory c = record c { world = record c.world { store = record c.world.store { memory = memory } } }
+
+-- bytes that were read, unless some lie outside the memory
+abbrev pub loaded : LoadKind → Option (List ℕ) → Config → Action
+loaded kind None c = Traps bounds_trap
+loaded kind (Some bytes) c = Goes (pushed (number (load_type kind) (bits_loaded kind bytes)) c)
+
+abbrev pub loads : LoadKind → ℕ → ℕ → Config → Action
+loads kind offset x c =
+    loaded kind (bytes_at c.world.store.memory (x + offset) (byte_len (load_width kind))) c
+
+abbrev pub stored : ℕ → List ℕ → ℕ → Config → Action
+stored offset bytes x c =
+    if nat_le (x + offset + length bytes) (length c.world.store.memory)
+    then Goes (with_memory (overwritten c.world.store.memory (x + offset) bytes) c) else Traps bounds_trap
+
+-- the value is the last operand, and the address stands below it
+abbrev pub stores : StoreKind → ℕ → ℕ → Config → Action
+stores kind offset value c = on_one ty.I32 (stored offset (bytes_stored kind value)) c.frame.operands c
+
+-- how many pages there are, and how many there may be
+abbrev pub page_count : List ℕ → ℕ
+page_count memory = length memory / page_size
+
+abbrev pub greatest_size : Option ℕ → ℕ
+greatest_size None = most_pages
+greatest_size (Some greatest) = min greatest most_pages
+
+abbrev pub greatest_pages : List Limits → ℕ
+greatest_pages [] = 0
+greatest_pages (l ∷ ls) = greatest_size l.greatest
+
+-- The size before, where the memory may have so many pages more, and else -1 (4.4.4.4). The new bytes are 0.
+abbrev pub grown : Bool → ℕ → Config → Action
+grown true n c =
+    Goes (with_memory (c.world.store.memory ++ replicate (n * page_size) 0) (pushed (I32 (page_count c.world.store.memory)) c))
+grown false n c = Goes (pushed (I32 (2 ^ 32 - 1)) c)
+
+abbrev pub grows : Module → ℕ → Config → Action
+grows m n c =
+    grown (nat_eq n 0 || nat_le (page_count c.world.store.memory + n) (greatest_pages m.memories)) n c
+
+-- ---- branches (4.4.5)
+
+-- A branch takes as many operands as its label wants, and leaves the labels that stand within that one (4.4.5.6).
+abbrev pub jumped : Label → ℕ → Config → Action
+jumped l n c =
+    if nat_le l.arity (length c.frame.operands)
+    then Goes (record c { frame = at_work c.frame (take l.arity c.frame.operands ++ l.below) l.branch (drop (suc n) c.frame.labels) })
+    else Traps no_rule
+
+-- A return takes as many operands as the frame has results, and leaves all of its labels (4.4.5.9).
+abbrev pub returned : Config → Action
+returned c =
+    if nat_le c.frame.arity (length c.frame.operands)
+    then Goes (record c { frame = at_work c.frame (take c.frame.arity c.frame.operands) Ends [] }) else Traps no_rule
+
+-- the outermost label is that of the body, a branch to which returns
+abbrev pub branched_to : Option Label → ℕ → Config → Action
+branched_to (Some l) n c = jumped l n c
+branched_to None n c = if nat_eq n (length c.frame.labels) then returned c else Traps no_rule
+
+abbrev pub branched : ℕ → Config → Action
+branched n c = branched_to (slice_get c.frame.labels n) n c
+
+abbrev pub branched_unless_zero : ℕ → ℕ → Config → Action
+branched_unless_zero n x c = if nat_eq x 0 then Goes c else branched n c
+
+abbrev pub label_or : ℕ → Option ℕ → ℕ
+label_or default None = default
+label_or default (Some n) = n
+
+abbrev pub branched_by : List ℕ → ℕ → ℕ → Config → Action
+branched_by labels default x c = branched (label_or default (slice_get labels x)) c
+
+-- ---- calls
+
+abbrev pub result_of : Option FuncType → Option ValType
+result_of None = None
+result_of (Some t) = t.result
+
+-- how many results a function has
+abbrev pub arity_of : Option FuncType → ℕ
+arity_of t = length (option_to_list (result_of t))
+
+-- a function's body, by the number among those that have one, with so many results
+abbrev pub entered : Option CodeBody → ℕ → ℕ → List Num → Config → Action
+entered None f arity args c = Traps no_rule
+entered (Some b) f arity args c =
     Goes (record c {
-      frame = record { func = f; locals = args ++ zeros b.locals; operands = []; code = code_of b.instrs; labels = [] };
+      frame = record { func = f; arity = arity; locals = args ++ zeros b.locals; operands = []; code = code_of b.instrs; labels = [] };
       below = c.frame ∷ c.below;
     })
 
@@ -180,7 +336,7 @@ abbrev pub enter : Module → ℕ → List Num → Config → Action
 enter m f args c =
     if nat_lt f (length m.imports) then CallsHost f args c
     else (if nat_le max_frames (length c.below) then Traps frames_trap
-    else entered (slice_get m.codes (f - length m.imports)) f args c)
+    else entered (slice_get m.codes (f - length m.imports)) f (arity_of (func_type m f)) args c)
 
 -- a call of a function with this type takes its arguments from the operands, the last first (4.4.5.10, 4.4.7.1)
 abbrev pub called : Module → ℕ → Option FuncType → Config → Action
@@ -190,31 +346,66 @@ called m f (Some t) c =
     then enter m f (reverse (take (length t.params) c.frame.operands)) (with_operands (drop (length t.params) c.frame.operands) c)
     else Traps no_rule
 
+abbrev pub same_func_type : Option FuncType → Option FuncType → Bool
+same_func_type (Some t) (Some u) = same_types t.params u.params && same_types (option_to_list t.result) (option_to_list u.result)
+same_func_type _ _ = false
+
+-- The function at a place of the table, which has to be there and to have this type (4.4.5.11).
+abbrev pub called_by : Module → Option FuncType → Option (Option ℕ) → Config → Action
+called_by m t (Some (Some f)) c = if same_func_type t (func_type m f) then called m f (func_type m f) c else Traps signature_trap
+called_by m t _ c = Traps no_entry_trap
+
+abbrev pub called_at : Module → ℕ → ℕ → Config → Action
+called_at m k x c = called_by m (slice_get m.types k) (slice_get c.world.store.table x) c
+
 -- one instruction, in the configuration behind it (4.4)
 abbrev pub act : Module → Instr → Config → Action
-act m Unreachable c = Traps unreachable_trap
-act m (If result) c = Traps no_rule
-act m Else c = Traps no_rule
-act m End c = Traps no_rule
-act m (Call f) c = called m f (func_type m f) c
-act m (LocalGet n) c = with_operand (slice_get c.frame.locals n) c
-act m (LocalSet n) c = on_operand (with_local n) c.frame.operands c
-act m (GlobalGet n) c = with_operand (slice_get c.world.store.globals n) c
-act m (GlobalSet n) c = on_operand (with_global n) c.frame.operands c
-act m (I32Const z) c = Goes (pushed (I32 (word_of z)) c)
-act m I32LtU c = on_two_i32 i32_lt_u c.frame.operands c
-act m I32Add c = on_two_i32 i32_add c.frame.operands c
-act m I32Sub c = on_two_i32 i32_sub c.frame.operands c
+act m instr.Unreachable c = Traps unreachable_trap
+act m instr.Nop c = Goes c
+act m (instr.Block result) c = Traps no_rule
+act m (instr.Loop result) c = Traps no_rule
+act m (instr.If result) c = Traps no_rule
+act m instr.Else c = Traps no_rule
+act m instr.End c = Traps no_rule
+act m (instr.Br n) c = branched n c
+act m (instr.BrIf n) c = on_one ty.I32 (branched_unless_zero n) c.frame.operands c
+act m (instr.BrTable labels default) c = on_one ty.I32 (branched_by labels default) c.frame.operands c
+act m instr.Return c = returned c
+act m (instr.Call f) c = called m f (func_type m f) c
+act m (instr.CallIndirect k) c = on_one ty.I32 (called_at m k) c.frame.operands c
+act m instr.Drop c = on_operand dropped c.frame.operands c
+act m instr.Select c = selected c.frame.operands c
+act m (instr.LocalGet n) c = with_operand (slice_get c.frame.locals n) c
+act m (instr.LocalSet n) c = on_operand (with_local n) c.frame.operands c
+act m (instr.LocalTee n) c = on_operand (with_local_too n) c.frame.operands c
+act m (instr.GlobalGet n) c = with_operand (slice_get c.world.store.globals n) c
+act m (instr.GlobalSet n) c = on_operand (with_global n) c.frame.operands c
+act m (instr.Load kind at) c = on_one ty.I32 (loads kind at.offset) c.frame.operands c
+act m (instr.Store kind at) c = on_one (store_type kind) (stores kind at.offset) c.frame.operands c
+act m instr.MemorySize c = Goes (pushed (I32 (page_count c.world.store.memory)) c)
+act m instr.MemoryGrow c = on_one ty.I32 (grows m) c.frame.operands c
+act m (instr.I32Const z) c = Goes (pushed (I32 (word_of z)) c)
+act m (instr.I64Const z) c = Goes (pushed (I64 (long_of z)) c)
+act m (instr.IsZero t) c = on_one t tested c.frame.operands c
+act m (instr.Compare t comparison) c = on_two t (compared t comparison) c.frame.operands c
+act m (instr.Unary t operator) c = on_one t (computed t operator) c.frame.operands c
+act m (instr.Binary t operator) c = on_two t (operated t operator) c.frame.operands c
+act m (instr.Convert conversion) c = on_one (converts_from conversion) (converted conversion) c.frame.operands c
 
--- Code under a label (4.4.6.1): it goes on with what follows, over the operands that are there.
-abbrev pub under_label : Option ValType → Code → Config → Config
-under_label result code c = record c {
-  frame = record c.frame {
-    operands = [];
-    code = code;
-    labels = record { arity = length (option_to_list result); branch = c.frame.code; follows = c.frame.code; below = c.frame.operands } ∷ c.frame.labels;
-  };
+-- Code under a label, to which a branch takes so many operands and goes on there (4.4.6.1). At its end it goes on with what
+-- follows, over the operands that are there.
+abbrev pub labelled : ℕ → Code → Code → Config → Config
+labelled arity branch code c = record c {
+  frame = at_work c.frame [] code (record { arity = arity; branch = branch; follows = c.frame.code; below = c.frame.operands } ∷ c.frame.labels);
 }
+
+-- the code of a block or an `if`, past which a branch goes (4.4.5.3, 4.4.5.5)
+abbrev pub under_label : Option ValType → Code → Config → Config
+under_label result code c = labelled (length (option_to_list result)) c.frame.code code c
+
+-- the code of a loop, with which a branch begins anew (4.4.5.4)
+abbrev pub under_loop : Option ValType → Code → Config → Config
+under_loop result code c = labelled 0 (Repeat result code c.frame.code) code c
 
 -- the first code where the operand isn't 0, else the second (4.4.5.5)
 abbrev pub chosen : Option ValType → Code → Code → Num → Config → Action
@@ -225,6 +416,8 @@ chosen result a b (I64 n) c = Traps no_rule
 abbrev pub done : Module → Work → Config → Action
 done m (Single i) c = act m i c
 done m (Chooses result a b) c = on_operand (chosen result a b) c.frame.operands c
+done m (Begins result body) c = Goes (under_label result body c)
+done m (BeginsLoop result body) c = Goes (under_loop result body c)
 
 -- why a run ends
 pub data Stop : Type 0 where
@@ -250,10 +443,6 @@ abbrev pub replied : Option ValType → List ℕ → Config → Step
 replied None replies c = Next c
 replied (Some t) [] c = Stops NoReply c.world
 replied (Some t) (r ∷ rs) c = Next (pushed (num_of t r) (with_world (record c.world { replies = rs }) c))
-
-abbrev pub result_of : Option FuncType → Option ValType
-result_of None = None
-result_of (Some t) = t.result
 
 abbrev pub field_of : Option FuncImport → List ℕ
 field_of None = []

@@ -1,9 +1,10 @@
 -- Signature: how a host reads the numbers of a module as values of declared types. A module's own types know only the
 -- widths; what they stand for is told from outside. This project's own.
-use Rattle.std.specs.Prelude.{ℕ, suc, ◌+◌, ◌-◌, ◌%◌, ◌^◌, ℤ, pos, negsuc, Bool, true, false, nat_eq, nat_lt, nat_le, List, [], ◌∷◌, length, Option, Some, None, slice_range, if◌then◌else◌}
+use Rattle.std.specs.Prelude.{ℕ, zero, suc, ◌+◌, ◌-◌, ◌^◌, ℤ, pos, negsuc, Bool, true, false, nat_lt, nat_le, List, [], ◌∷◌, length, Option, Some, None, slice_range, if◌then◌else◌}
 use Rattle.std.specs.Option.{option_map}
 use Rattle.zw_session.specs.Sessions.{Scalar, Number, Truth}
-use Rattle.zw_wasm.specs.Structure.{Num, bits_of}
+use Rattle.std.specs.Int.{cast_signed, w32, w64}
+use Rattle.zw_wasm.specs.Structure.{Num, I32, I64, bits_of}
 
 -- how a number is read: without a sign or with one, at a number of bits, or as a truth value
 pub data Reading : Type 0 where
@@ -26,15 +27,22 @@ pub record View : Type 0 where
   pub exported : List ℕ → Option Signature
   pub import_params : ℕ → List Shown
 
--- the number with these lowest bits, in two's complement
-abbrev pub signed_of : ℕ → ℕ → ℤ
-signed_of bits n = if nat_lt (n % 2 ^ bits) (2 ^ (bits - 1)) then pos (n % 2 ^ bits) else negsuc (2 ^ bits - suc (n % 2 ^ bits))
+-- the number that a whole i32 or i64 is with a sign
+abbrev pub signed_value : Num → ℤ
+signed_value (I32 n) = cast_signed w32 n
+signed_value (I64 n) = cast_signed w64 n
 
--- the value that bits stand for
-abbrev pub scalar_of : Reading → ℕ → Scalar
-scalar_of (Unsigned bits) n = Number (pos (n % 2 ^ bits))
-scalar_of (Signed bits) n = Number (signed_of bits n)
-scalar_of Logical n = Truth (nat_eq (n % 2) 1)
+-- a truth value is 0 or 1, and any other number is none
+abbrev pub truth_of : ℕ → Scalar
+truth_of zero = Truth false
+truth_of (suc zero) = Truth true
+truth_of n = Number (pos n)
+
+-- The value that a number stands for, which is read whole: bits above the declared type tell it from the values of that type.
+abbrev pub scalar_of : Reading → Num → Scalar
+scalar_of (Unsigned bits) v = Number (pos (bits_of v))
+scalar_of (Signed bits) v = Number (signed_value v)
+scalar_of Logical v = truth_of (bits_of v)
 
 -- whether a value is in the range of a declared type
 abbrev pub is_in_range : Reading → Scalar → Bool
@@ -51,7 +59,7 @@ is_in_range Logical (Number z) = false
 abbrev pub shown_scalars : List Shown → List Num → List Scalar
 shown_scalars [] args = []
 shown_scalars (Value r ∷ ps) [] = []
-shown_scalars (Value r ∷ ps) (a ∷ args) = scalar_of r (bits_of a) ∷ shown_scalars ps args
+shown_scalars (Value r ∷ ps) (a ∷ args) = scalar_of r a ∷ shown_scalars ps args
 shown_scalars (Bytes ∷ ps) [] = []
 shown_scalars (Bytes ∷ ps) (a ∷ []) = []
 shown_scalars (Bytes ∷ ps) (a ∷ b ∷ args) = shown_scalars ps args

@@ -14,10 +14,8 @@ use Rattle.zw_wasm.specs.declared.module.DataSegment.{DataSegment}
 use Rattle.zw_wasm.specs.declared.module.CodeBody.{CodeBody}
 use Rattle.zw_wasm.specs.declared.module.Instr.{Instr}
 use Rattle.zw_wasm.specs.declared.module.Module.{Module}
-use Rattle.zw_wasm.specs.declared.encode.instructions.Immediate.{Immediate}
-use Rattle.zw_wasm.specs.declared.encode.instructions.Immediate.TheVariants.{Nothing, BlockType, Index, Signed32}
-use Rattle.zw_wasm.specs.Leb.{unsigned, signed}
-use Rattle.zw_wasm.specs.Opcodes.{opcode, immediate_of}
+use Rattle.zw_leb.specs.Leb.{unsigned, signed}
+use Rattle.zw_wasm.specs.Opcodes.{Immediate, Nothing, BlockType, Index, Labels, IndexAndZero, Zero, Memory, Signed32, Signed64, opcode, immediate_of}
 
 -- a list: the number of its items, and then these (5.1.3)
 abbrev pub vector : {X : Type 0} → (X → List ℕ) → List X → List ℕ
@@ -69,7 +67,12 @@ abbrev pub immediate : Immediate → List ℕ
 immediate Nothing = []
 immediate (BlockType result) = block_type result
 immediate (Index index) = unsigned index
+immediate (Labels labels default) = vector unsigned labels ++ unsigned default
+immediate (IndexAndZero index) = unsigned index ++ 0x00 ∷ []
+immediate Zero = 0x00 ∷ []
+immediate (Memory at) = unsigned at.align ++ unsigned at.offset
 immediate (Signed32 z) = signed z
+immediate (Signed64 z) = signed z
 
 -- an instruction (5.4)
 abbrev pub instruction : Instr → List ℕ

@@ -1,6 +1,8 @@
 -- Typing: the types of instruction sequences, by the validation algorithm over an operand stack and a control stack
 -- (WebAssembly Core Specification 1.0, 3.3 and 7.3). Apart from the rules of whole modules, which use it for each body.
-use Rattle.std.specs.Prelude.{ℕ, suc, Bool, true, false, List, [], ◌∷◌, Option, Some, None, slice_get, if◌then◌else◌}
+use Rattle.std.specs.Prelude.{ℕ, suc, Bool, true, false, ◌&&◌, nat_le, List, [], ◌∷◌, ◌++◌, Option, Some, None, is_some, slice_get, if◌then◌else◌}
+use Rattle.std.specs.Int.{Width}
+use Rattle.std.specs.List.{list_all}
 use Rattle.std.specs.Option.{option_to_list}
 use Rattle.zw_wasm.specs.declared.module.FuncType.{FuncType}
 use Rattle.zw_wasm.specs.declared.module.GlobalDef.{GlobalDef}
@@ -8,13 +10,19 @@ use Rattle.zw_wasm.specs.declared.module.Module.{Module}
 use Rattle.zw_wasm.specs.declared.module.ValType.{ValType}
 use Rattle.zw_wasm.specs.declared.module.ValType.TheVariants.{I32, I64}
 use Rattle.zw_wasm.specs.declared.module.Instr.{Instr}
-use Rattle.zw_wasm.specs.declared.module.Instr.TheVariants.{Unreachable, If, Else, End, Call, LocalGet, LocalSet, GlobalGet, GlobalSet, I32Const, I32LtU, I32Add, I32Sub}
+use Rattle.zw_wasm.specs.declared.module.Instr.TheVariants as instr
+use Rattle.zw_wasm.specs.declared.module.Conversion.{Conversion}
+use Rattle.zw_wasm.specs.declared.module.Conversion.TheVariants.{Wrap, ExtendS, ExtendU}
+use Rattle.zw_wasm.specs.declared.module.MemoryArgument.{MemoryArgument}
+use Rattle.zw_wasm.specs.Accesses.{load_type, load_width, store_type, store_width, natural_alignment}
 use Rattle.zw_wasm.specs.Functions.{func_type}
 
--- what an instruction sequence stands in: its module, and the types of the parameters and locals (3.1.1)
+-- what an instruction sequence stands in: its module, the types of the parameters and locals, and those that its function
+-- returns (3.1.1)
 pub record Context : Type 0 where
   pub module_ : Module
   pub locals : List ValType
+  pub returns : List ValType
 
 -- an operand's type, or any type, which an operand has that code out of reach takes from nowhere
 pub data Operand : Type 0 where
@@ -124,24 +132,131 @@ abbrev pub with_index : {A : Type 0} → Option A → (A → Checked) → Checke
 with_index None go = Refused no_index
 with_index (Some x) go = go x
 
+-- the entries for the code in a block and in a loop, over these operands: a branch to a block takes its result, and one to a
+-- loop, which begins it anew, takes nothing
+abbrev pub block_control : Option ValType → List Operand → Control
+block_control result below =
+    record { results = option_to_list result; branch = option_to_list result; below = below; unreachable = false; is_if = false }
+
+abbrev pub loop_control : Option ValType → List Operand → Control
+loop_control result below =
+    record { results = option_to_list result; branch = []; below = below; unreachable = false; is_if = false }
+
+-- an instruction that takes these operands, and never goes on to what stands behind it: there any operands are found
+abbrev pub never_goes_on : List ValType → List Operand → Control → List Control → Checked
+never_goes_on takes os c outer =
+    with_operands (all_taken takes os c.unreachable) (λ rest. Goes [] (record c { unreachable = true }) outer)
+
+abbrev pub same_types : List ValType → List ValType → Bool
+same_types [] [] = true
+same_types (t ∷ ts) (u ∷ us) = same_type t u && same_types ts us
+same_types [] (u ∷ us) = false
+same_types (t ∷ ts) [] = false
+
+-- the entry with this number is there, and a branch to it takes these types
+abbrev pub branches_so : List ValType → Option Control → Bool
+branches_so ts None = false
+branches_so ts (Some d) = same_types ts d.branch
+
+-- a branch by a table, whose labels are all there and take the types of the default (3.3.5.8)
+abbrev pub branches_by : List ℕ → Control → List Operand → Control → List Control → Checked
+branches_by labels d os c outer =
+    if list_all (λ l. is_some (slice_get (c ∷ outer) l)) labels
+    then (if list_all (λ l. branches_so d.branch (slice_get (c ∷ outer) l)) labels
+    then never_goes_on (d.branch ++ I32 ∷ []) os c outer else Refused wrong_type)
+    else Refused no_index
+
+-- the operands without the first, of any type
+abbrev pub one_taken : List Operand → Bool → Option (Operand × List Operand)
+one_taken (o ∷ os) unreachable = Some (o, os)
+one_taken [] true = Some (Unknown, [])
+one_taken [] false = None
+
+abbrev pub with_one : Option (Operand × List Operand) → (Operand → List Operand → Checked) → Checked
+with_one None go = Refused wrong_type
+with_one (Some p) go = go p.0 p.1
+
+-- the one type that two operands have
+abbrev pub joined : Operand → Operand → Option Operand
+joined Unknown o = Some o
+joined (Known t) Unknown = Some (Known t)
+joined (Known t) (Known u) = if same_type t u then Some (Known t) else None
+
+abbrev pub chosen_one : Option Operand → List Operand → Control → List Control → Checked
+chosen_one None os c outer = Refused wrong_type
+chosen_one (Some o) os c outer = Goes (o ∷ os) c outer
+
+-- an i32 chooses one of two operands of one type (3.3.2.2)
+abbrev pub selects : List Operand → Control → List Control → Checked
+selects os c outer =
+    with_operands (all_taken (I32 ∷ []) os c.unreachable)
+    (λ rest. with_one (one_taken rest c.unreachable) (λ o more. with_one (one_taken more c.unreachable) (λ p below. chosen_one (joined o p) below c outer)))
+
+-- an instruction that reads or writes the memory, at an alignment of at most the natural one (3.3.4)
+abbrev pub aligned : Width → MemoryArgument → Checked → Checked
+aligned w at go = if nat_le at.align (natural_alignment w) then go else Refused wrong_alignment
+
+abbrev pub accesses : Context → Width → MemoryArgument → List ValType → List ValType → List Operand → Control → List Control → Checked
+accesses x w at takes puts os c outer =
+    with_index (slice_get x.module_.memories 0) (λ memory. with_operands (all_taken takes os c.unreachable) (λ rest. aligned w at (Goes (put_on puts rest) c outer)))
+
+-- the types of a conversion
+abbrev pub converts_from : Conversion → ValType
+converts_from Wrap = I64
+converts_from ExtendS = I32
+converts_from ExtendU = I32
+
+abbrev pub converts_to : Conversion → ValType
+converts_to Wrap = I32
+converts_to ExtendS = I64
+converts_to ExtendU = I64
+
 -- one instruction (3.3)
 abbrev pub check_instr : Context → Instr → List Operand → Control → List Control → Checked
-check_instr x Unreachable os c outer = Goes [] (record c { unreachable = true }) outer
-check_instr x (If result) os c outer =
+check_instr x instr.Unreachable os c outer = Goes [] (record c { unreachable = true }) outer
+check_instr x instr.Nop os c outer = Goes os c outer
+check_instr x (instr.Block result) os c outer = Goes [] (block_control result os) (c ∷ outer)
+check_instr x (instr.Loop result) os c outer = Goes [] (loop_control result os) (c ∷ outer)
+check_instr x (instr.If result) os c outer =
     with_operands (all_taken (I32 ∷ []) os c.unreachable) (λ rest. Goes [] (if_control result rest) (c ∷ outer))
-check_instr x Else os c outer = at_end c os (turned c outer)
-check_instr x End os c outer = at_end c os (closed_at_end c outer)
-check_instr x (Call f) os c outer =
+check_instr x instr.Else os c outer = at_end c os (turned c outer)
+check_instr x instr.End os c outer = at_end c os (closed_at_end c outer)
+check_instr x (instr.Br l) os c outer =
+    with_index (slice_get (c ∷ outer) l) (λ (d : Control). never_goes_on d.branch os c outer)
+check_instr x (instr.BrIf l) os c outer =
+    with_index (slice_get (c ∷ outer) l) (λ (d : Control). replaces (d.branch ++ I32 ∷ []) d.branch os c outer)
+check_instr x (instr.BrTable labels default) os c outer =
+    with_index (slice_get (c ∷ outer) default) (λ d. branches_by labels d os c outer)
+check_instr x instr.Return os c outer = never_goes_on x.returns os c outer
+check_instr x (instr.Call f) os c outer =
     with_index (func_type x.module_ f) (λ (t : FuncType). replaces t.params (option_to_list t.result) os c outer)
-check_instr x (LocalGet n) os c outer = with_index (slice_get x.locals n) (λ t. replaces [] (t ∷ []) os c outer)
-check_instr x (LocalSet n) os c outer = with_index (slice_get x.locals n) (λ t. replaces (t ∷ []) [] os c outer)
-check_instr x (GlobalGet n) os c outer =
+check_instr x (instr.CallIndirect k) os c outer =
+    with_index (slice_get x.module_.tables 0)
+    (λ table. with_index (slice_get x.module_.types k) (λ (t : FuncType). replaces (t.params ++ I32 ∷ []) (option_to_list t.result) os c outer))
+check_instr x instr.Drop os c outer = with_one (one_taken os c.unreachable) (λ o rest. Goes rest c outer)
+check_instr x instr.Select os c outer = selects os c outer
+check_instr x (instr.LocalGet n) os c outer = with_index (slice_get x.locals n) (λ t. replaces [] (t ∷ []) os c outer)
+check_instr x (instr.LocalSet n) os c outer = with_index (slice_get x.locals n) (λ t. replaces (t ∷ []) [] os c outer)
+check_instr x (instr.LocalTee n) os c outer = with_index (slice_get x.locals n) (λ t. replaces (t ∷ []) (t ∷ []) os c outer)
+check_instr x (instr.GlobalGet n) os c outer =
     with_index (slice_get x.module_.globals n) (λ (g : GlobalDef). replaces [] (g.ty ∷ []) os c outer)
-check_instr x (GlobalSet n) os c outer = with_index (slice_get x.module_.globals n) (λ g. writes g os c outer)
-check_instr x (I32Const z) os c outer = replaces [] (I32 ∷ []) os c outer
-check_instr x I32LtU os c outer = replaces (I32 ∷ I32 ∷ []) (I32 ∷ []) os c outer
-check_instr x I32Add os c outer = replaces (I32 ∷ I32 ∷ []) (I32 ∷ []) os c outer
-check_instr x I32Sub os c outer = replaces (I32 ∷ I32 ∷ []) (I32 ∷ []) os c outer
+check_instr x (instr.GlobalSet n) os c outer = with_index (slice_get x.module_.globals n) (λ g. writes g os c outer)
+check_instr x (instr.Load kind at) os c outer =
+    accesses x (load_width kind) at (I32 ∷ []) (load_type kind ∷ []) os c outer
+check_instr x (instr.Store kind at) os c outer =
+    accesses x (store_width kind) at (I32 ∷ store_type kind ∷ []) [] os c outer
+check_instr x instr.MemorySize os c outer =
+    with_index (slice_get x.module_.memories 0) (λ memory. replaces [] (I32 ∷ []) os c outer)
+check_instr x instr.MemoryGrow os c outer =
+    with_index (slice_get x.module_.memories 0) (λ memory. replaces (I32 ∷ []) (I32 ∷ []) os c outer)
+check_instr x (instr.I32Const z) os c outer = replaces [] (I32 ∷ []) os c outer
+check_instr x (instr.I64Const z) os c outer = replaces [] (I64 ∷ []) os c outer
+check_instr x (instr.IsZero t) os c outer = replaces (t ∷ []) (I32 ∷ []) os c outer
+check_instr x (instr.Compare t comparison) os c outer = replaces (t ∷ t ∷ []) (I32 ∷ []) os c outer
+check_instr x (instr.Unary t operator) os c outer = replaces (t ∷ []) (t ∷ []) os c outer
+check_instr x (instr.Binary t operator) os c outer = replaces (t ∷ t ∷ []) (t ∷ []) os c outer
+check_instr x (instr.Convert conversion) os c outer =
+    replaces (converts_from conversion ∷ []) (converts_to conversion ∷ []) os c outer
 
 -- how a sequence may be refused: the number of an instruction, and why
 pub record Place : Type 0 where

@@ -1,6 +1,6 @@
 -- Validity: which modules are valid (WebAssembly Core Specification 1.0, 3.4), as a function to the first violation.
 -- What stands outside bodies is checked first, in the order of sections and their entries; then the bodies.
-use Rattle.std.specs.Prelude.{◌≡◌, ℕ, suc, ◌+◌, Bool, true, false, not, ◌&&◌, nat_eq, nat_lt, nat_le, min, List, [], ◌∷◌, ◌++◌, length, take, replicate, Option, Some, None, if◌then◌else◌}
+use Rattle.std.specs.Prelude.{◌≡◌, ℕ, suc, ◌+◌, Bool, true, false, not, ◌&&◌, nat_eq, nat_lt, nat_le, min, List, [], ◌∷◌, ◌++◌, length, take, replicate, Option, Some, None, slice_get, if◌then◌else◌}
 use Rattle.std.specs.List.{list_all, list_any}
 use Rattle.std.specs.Option.{option_to_list}
 use Rattle.std.specs.Str.{bytes_eq}
@@ -12,12 +12,12 @@ use Rattle.zw_wasm.specs.declared.module.FuncImport.{FuncImport}
 use Rattle.zw_wasm.specs.declared.module.FuncType.{FuncType}
 use Rattle.zw_wasm.specs.declared.module.GlobalDef.{GlobalDef}
 use Rattle.zw_wasm.specs.declared.module.Instr.{Instr}
-use Rattle.zw_wasm.specs.declared.module.Instr.TheVariants.{End, I32Const}
+use Rattle.zw_wasm.specs.declared.module.Instr.TheVariants.{End, GlobalGet, I32Const, I64Const}
 use Rattle.zw_wasm.specs.declared.module.Limits.{Limits}
 use Rattle.zw_wasm.specs.declared.module.Module.{Module}
 use Rattle.zw_wasm.specs.declared.module.TheConstants.ExportDef.{FUNC, TABLE, MEMORY, GLOBAL}
 use Rattle.zw_wasm.specs.declared.module.ValType.{ValType}
-use Rattle.zw_wasm.specs.declared.module.ValType.TheVariants.{I32}
+use Rattle.zw_wasm.specs.declared.module.ValType.TheVariants.{I32, I64}
 use Rattle.zw_wasm.specs.Functions.{func_type, func_count}
 use Rattle.zw_wasm.specs.Typing.{Place, same_type, check_code, body_control}
 
@@ -88,17 +88,27 @@ at_most_pages (Some greatest) = nat_le greatest max_pages
 abbrev pub memory_ok : Limits → Bool
 memory_ok l = nat_le l.least max_pages && at_most_pages l.greatest && in_limits l.least l.greatest
 
--- the type of a constant expression: one constant (3.3.7.2)
-abbrev pub constant_type : List Instr → Option ValType
-constant_type (I32Const z ∷ End ∷ []) = Some I32
-constant_type _ = None
+abbrev pub immutable_type : Option GlobalDef → Option ValType
+immutable_type None = None
+immutable_type (Some g) = if g.mutable then None else Some g.ty
 
-abbrev pub is_constant_of : ValType → List Instr → Bool
-is_constant_of t code = has_type (constant_type code)
+-- The type of a constant expression, which is one constant, or the value of one of these globals that isn't mutable (3.3.7.2).
+abbrev pub constant_type : List GlobalDef → List Instr → Option ValType
+constant_type globals (I32Const z ∷ End ∷ []) = Some I32
+constant_type globals (I64Const z ∷ End ∷ []) = Some I64
+constant_type globals (GlobalGet n ∷ End ∷ []) = immutable_type (slice_get globals n)
+constant_type globals _ = None
+
+abbrev pub is_constant_of : List GlobalDef → ValType → List Instr → Bool
+is_constant_of globals t code = has_type (constant_type globals code)
   where
     has_type : Option ValType → Bool
     has_type None = false
     has_type (Some u) = same_type t u
+
+-- The first value of a global names no other one: it might name an imported one, and there is none (3.4.10).
+abbrev pub global_ok : GlobalDef → Bool
+global_ok g = is_constant_of [] g.ty g.init
 
 -- what an export names is there (3.4.8)
 abbrev pub export_is_there : Module → ExportDef → Bool
@@ -123,11 +133,11 @@ start_violation m (Some f) = if is_start_type (func_type m f) then None else Som
 
 -- a part of a table: the table and the functions are there, and its place is an i32 (3.4.5)
 abbrev pub element_ok : Module → Element → Bool
-element_ok m e = nat_lt e.table (length m.tables) && is_constant_of I32 e.at && list_all (λ f. nat_lt f (func_count m)) e.funcs
+element_ok m e = nat_lt e.table (length m.tables) && is_constant_of m.globals I32 e.at && list_all (λ f. nat_lt f (func_count m)) e.funcs
 
 -- a part of a memory: the memory is there, and its place is an i32 (3.4.6)
 abbrev pub data_ok : Module → DataSegment → Bool
-data_ok m d = nat_lt d.memory (length m.memories) && is_constant_of I32 d.at
+data_ok m d = nat_lt d.memory (length m.memories) && is_constant_of m.globals I32 d.at
 
 -- each function with a type has a body, and each body a type
 abbrev pub codes_violation : Module → Option Violation
@@ -142,7 +152,7 @@ outside_violation m =
     (or_then (outside functions_section (first_refused (λ k ty. nat_lt ty (length m.types)) 0 m.funcs))
     (or_then (outside tables_section (first_refused (λ k (l : Limits). nat_eq k 0 && in_limits l.least l.greatest) 0 m.tables))
     (or_then (outside memories_section (first_refused (λ k (l : Limits). nat_eq k 0 && memory_ok l) 0 m.memories))
-    (or_then (outside globals_section (first_refused (λ k (g : GlobalDef). is_constant_of g.ty g.init) 0 m.globals))
+    (or_then (outside globals_section (first_refused (λ k. global_ok) 0 m.globals))
     (or_then (outside exports_section (first_refused (export_ok m) 0 m.exports))
     (or_then (start_violation m m.start)
     (or_then (outside elements_section (first_refused (λ k. element_ok m) 0 m.elements))
@@ -158,7 +168,7 @@ expanded (run ∷ runs) = replicate run.0 run.1 ++ expanded runs
 abbrev pub check_body : Module → Option FuncType → CodeBody → Option Place
 check_body m None b = None
 check_body m (Some t) b =
-    check_code (record { module_ = m; locals = t.params ++ expanded b.locals }) 0 b.instrs []
+    check_code (record { module_ = m; locals = t.params ++ expanded b.locals; returns = option_to_list t.result }) 0 b.instrs []
     (body_control (option_to_list t.result)) []
 
 abbrev pub in_body : ℕ → Option Place → Option Violation

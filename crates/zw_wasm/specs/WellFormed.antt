@@ -10,7 +10,7 @@ use Rattle.zw_wasm.specs.declared.module.Element.{Element}
 use Rattle.zw_wasm.specs.declared.module.DataSegment.{DataSegment}
 use Rattle.zw_wasm.specs.declared.module.CodeBody.{CodeBody}
 use Rattle.zw_wasm.specs.declared.module.Instr.{Instr}
-use Rattle.zw_wasm.specs.declared.module.Instr.TheVariants.{Unreachable, If, Else, End}
+use Rattle.zw_wasm.specs.declared.module.Instr.TheVariants.{Unreachable, Block, Loop, If, Else, End}
 use Rattle.zw_wasm.specs.declared.module.Module.{Module}
 use Rattle.zw_wasm.specs.declared.module.ValType.{ValType}
 use Rattle.zw_wasm.specs.Structure.{is_plain}
@@ -44,6 +44,13 @@ IsPlain i = is_plain i ≡ true
 pub record IsClosed (is : List Instr) : Type 0 where
   pub by : (open_ifs : List Bool) (rest : List Instr) → ClosesIn open_ifs rest → ClosesIn open_ifs (is ++ rest)
 
+-- a block, and a loop
+abbrev pub block_of : Option ValType → List Instr → List Instr
+block_of result is = Block result ∷ is ++ End ∷ []
+
+abbrev pub loop_of : Option ValType → List Instr → List Instr
+loop_of result is = Loop result ∷ is ++ End ∷ []
+
 -- an `if` with what it chooses, or nothing
 abbrev pub if_block : Option ValType → List Instr → List Instr
 if_block result is = If result ∷ is ++ End ∷ []
@@ -52,12 +59,14 @@ if_block result is = If result ∷ is ++ End ∷ []
 abbrev pub if_else_block : Option ValType → List Instr → List Instr → List Instr
 if_else_block result is js = If result ∷ is ++ Else ∷ js ++ End ∷ []
 
--- What is closed: plain instructions, one closed list after another, and an `if` round closed lists. Such a list and an
--- `end` are an expression.
+-- What is closed: plain instructions, one closed list after another, and a block, a loop or an `if` round closed lists.
+-- Such a list and an `end` are an expression.
 pub record SequencesClose : Type 0 where
   pub nothing : IsClosed []
   pub plain : (i : Instr) → IsPlain i → IsClosed (i ∷ [])
   pub then : (is js : List Instr) → IsClosed is → IsClosed js → IsClosed (is ++ js)
+  pub in_block : (result : Option ValType) (is : List Instr) → IsClosed is → IsClosed (block_of result is)
+  pub in_loop : (result : Option ValType) (is : List Instr) → IsClosed is → IsClosed (loop_of result is)
   pub chosen : (result : Option ValType) (is : List Instr) → IsClosed is → IsClosed (if_block result is)
   pub chosen_from_two : (result : Option ValType) (is js : List Instr) → IsClosed is → IsClosed js → IsClosed (if_else_block result is js)
   pub ends : (is : List Instr) → IsClosed is → EndsOnce (is ++ End ∷ [])
@@ -66,17 +75,23 @@ pub record SequencesClose : Type 0 where
 pub record ExpressionsEnd : Type 0 where
   pub of_if : EndsOnce (If None ∷ Unreachable ∷ End ∷ End ∷ [])
   pub of_else : EndsOnce (If None ∷ Else ∷ If None ∷ Else ∷ End ∷ End ∷ End ∷ [])
+  pub of_block : EndsOnce (Block None ∷ Loop None ∷ If None ∷ Else ∷ End ∷ End ∷ End ∷ End ∷ [])
   pub no_end : ¬ EndsOnce (If None ∷ End ∷ [])
   pub behind_end : ¬ EndsOnce (If None ∷ End ∷ End ∷ Unreachable ∷ [])
   pub second_end : ¬ EndsOnce (If None ∷ End ∷ End ∷ End ∷ [])
   pub no_if : ¬ EndsOnce (Else ∷ End ∷ [])
+  pub else_in_block : ¬ EndsOnce (Block None ∷ Else ∷ End ∷ End ∷ [])
+  pub else_in_loop : ¬ EndsOnce (If None ∷ Loop None ∷ Else ∷ End ∷ End ∷ End ∷ [])
   pub second_else : ¬ EndsOnce (If None ∷ Else ∷ Else ∷ End ∷ End ∷ [])
   pub else_behind_if : ¬ EndsOnce (If None ∷ End ∷ Else ∷ End ∷ End ∷ [])
 
--- A sequence of instructions by the grammar (5.4.1): plain ones, and an `if` with one sequence or two inside it.
+-- A sequence of instructions by the grammar (5.4.1): plain ones, a block or a loop round a sequence, and an `if` with one
+-- sequence or two inside it.
 pub data IsSequence : List Instr → Type 0 where
   empty : IsSequence []
   plain : (i : Instr) (is : List Instr) → IsPlain i → IsSequence is → IsSequence (i ∷ is)
+  in_block : (result : Option ValType) (is rest : List Instr) → IsSequence is → IsSequence rest → IsSequence (block_of result is ++ rest)
+  in_loop : (result : Option ValType) (is rest : List Instr) → IsSequence is → IsSequence rest → IsSequence (loop_of result is ++ rest)
   chosen : (result : Option ValType) (is rest : List Instr) → IsSequence is → IsSequence rest → IsSequence (if_block result is ++ rest)
   chosen_from_two : (result : Option ValType) (is js rest : List Instr) → IsSequence is → IsSequence js → IsSequence rest → IsSequence (if_else_block result is js ++ rest)
 

@@ -3,16 +3,16 @@
 ghost use Rattle.std.specs.Prelude.{◌≡◌, ℕ, List, ◌++◌, length, All, OnOk};
 ghost use Rattle.std.specs.List.{flat_map};
 ghost use Rattle.zw_wasm.specs.Fits.{Fits32, Countable, FitsVector, FitsSection};
-ghost use Rattle.zw_wasm.specs.Leb.{unsigned};
+ghost use Rattle.zw_leb.specs.Leb.{unsigned, signed};
 ghost use Rattle.zw_wasm.specs.Spelling.{vector, byte_vector, section, list_section};
 
 mod instructions;
 mod parts;
 mod sections;
 
-use crate::leb;
 pub use sections::module_bytes;
 use zw_base::Oom;
+use zw_leb::{put_i32, put_i64, put_u32};
 
 /// A part of a module that has a spelling of its own.
 pub trait Encode {
@@ -28,13 +28,37 @@ pub trait Encode {
         ensures fit { OnOk result (fits self.now) };
 }
 
+/// Appends an unsigned number.
+pub fn push_u32(out: &mut Vec<u8>, number: u32) -> Result<(), Oom>
+    ensures { OnOk result (out.new.items ≡ out.old.items ++ unsigned number) }
+{
+    out.extend_from_slice(put_u32(number).as_slice())?;
+    Ok(())
+}
+
+/// Appends a signed number of 32 bits.
+pub fn push_i32(out: &mut Vec<u8>, number: i32) -> Result<(), Oom>
+    ensures { OnOk result (out.new.items ≡ out.old.items ++ signed number) }
+{
+    out.extend_from_slice(put_i32(number).as_slice())?;
+    Ok(())
+}
+
+/// Appends a signed number of 64 bits.
+pub fn push_i64(out: &mut Vec<u8>, number: i64) -> Result<(), Oom>
+    ensures { OnOk result (out.new.items ≡ out.old.items ++ signed number) }
+{
+    out.extend_from_slice(put_i64(number).as_slice())?;
+    Ok(())
+}
+
 /// Appends a number of items or bytes.
 fn push_length(out: &mut Vec<u8>, len: usize) -> Result<(), Oom>
     ensures spelled { OnOk result (out.new.items ≡ out.old.items ++ unsigned len) }
     ensures fit { OnOk result (Fits32 len) }
 {
     match u32::try_from(len) {
-        Ok(len) => leb::push_u32(out, len),
+        Ok(len) => push_u32(out, len),
         Err(_) => Err(Oom),
     }
 }

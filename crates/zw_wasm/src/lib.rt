@@ -4,7 +4,6 @@
 mod encode;
 mod execution;
 mod laws;
-mod leb;
 mod module;
 mod num;
 mod reduce;
@@ -12,15 +11,13 @@ mod writing;
 
 pub use execution::{
     bodies_are_typed, calls_are_worked, code_is_structured, module_calls_stay_ended,
-    sequences_compose,
+    modules_are_worked, numbers_are_worked, sequences_compose,
 };
-pub use laws::{
-    longer_numbers, no_shorter_module, one_number, sequences_close, shortest_module,
-    shortest_number,
-};
+pub use laws::{no_shorter_module, sequences_close, shortest_module};
 pub use module::{
-    CodeBody, DataSegment, Element, ExportDef, FuncImport, FuncType, GlobalDef, Instr, Limits,
-    Module, ValType,
+    BinaryOperator, CodeBody, Comparison, Conversion, DataSegment, Element, ExportDef, FuncImport,
+    FuncType, GlobalDef, Instr, Limits, LoadKind, MemoryArgument, Module, StoreKind, UnaryOperator,
+    ValType,
 };
 pub use num::Num;
 pub use reduce::{

@@ -1,12 +1,14 @@
 // A plain program of reduction: it runs the code of one function, one instruction after another, and calls the host
-// where the code does. It is for small inputs and takes no care of speed; its contracts are the definition.
-ghost use Rattle.std.specs.Prelude.{◌≡◌, ℕ, ◌-◌, ◌<◌, ◌≤◌, ◌++◌, List, Option, length, replicate, IfOk, OnOk};
-ghost use Rattle.zw_wasm.specs.Computed.{CodeRuns, FunctionRuns, calls_own};
+// where the code does. It follows some instructions alone, is for small inputs and takes no care of speed; its contracts
+// are the definition.
+ghost use Rattle.std.specs.Prelude.{◌≡◌, ℕ, ◌-◌, ◌<◌, ◌≤◌, ◌++◌, [], List, Option, length, replicate, IfOk, OnOk};
+ghost use Rattle.zw_wasm.specs.Computed.{CodeRuns, FunctionRuns};
 ghost use Rattle.zw_wasm.specs.ModuleMachine.{constant_of, export_in, exported_global, first_store};
 ghost use Rattle.zw_wasm.specs.Structure.{num_of, zeros};
 
 mod ends;
 mod execute;
+mod followed;
 mod frame;
 mod host;
 #[cfg(test)]
@@ -16,6 +18,7 @@ use crate::module::{ExportDef, Instr, Module, ValType};
 use crate::num::Num;
 use ends::sequence_ends;
 use execute::{Effect, execute};
+use followed::follow;
 use frame::Frame;
 use sqlite_items::{Items, at};
 use std::alloc::{AllocError, Global};
@@ -47,8 +50,8 @@ pub enum RunEnd {
     WantsReply(u64),
     /// The bound was used up.
     StillRuns,
-    /// It came to a call of a function that isn't imported, which this program doesn't follow.
-    CallsOwn,
+    /// It came to an instruction that this program doesn't follow.
+    NotFollowed,
 }
 
 /// The cause of a trap where no rule applies, which valid code never meets.
@@ -93,17 +96,18 @@ pub fn first_globals(alloc: Global, m: &Module) -> Result<Items<Num>, AllocError
 {
     let mut globals = Items::new(alloc);
     for global in m.globals.as_slice() {
-        globals.push(number(global.ty, u64::from(constant(global.init.as_slice()))))?;
+        globals.push(number(global.ty, constant(global.init.as_slice())))?;
     }
     Ok(globals)
 }
 
-/// The bits of a constant expression.
-fn constant(init: &[Instr]) -> u32
-    ensures { result ≡ constant_of init.now }
+/// The bits of a constant expression that names no global.
+fn constant(init: &[Instr]) -> u64
+    ensures { result ≡ constant_of [] init.now }
 {
     match init {
-        [Instr::I32Const(z), ..] => z.cast_unsigned(),
+        [Instr::I32Const(z), ..] => u64::from(z.cast_unsigned()),
+        [Instr::I64Const(z), ..] => z.cast_unsigned(),
         _ => 0,
     }
 }
@@ -175,9 +179,9 @@ fn run_code(
         if left == 0 {
             return Ok(RunEnd::StillRuns);
         }
-        if calls_own(m, &instr) {
-            return Ok(RunEnd::CallsOwn);
-        }
+        let Some(instr) = follow(m, &instr) else {
+            return Ok(RunEnd::NotFollowed);
+        };
         left -= 1;
         match execute(alloc, m, instrs, &ends, instr, &mut frame, state)? {
             Effect::Goes => {}
@@ -186,14 +190,4 @@ fn run_code(
         }
     }
     Ok(RunEnd::Returned(frame.operands, left))
-}
-
-/// Whether an instruction calls a function that isn't imported.
-fn calls_own(m: &Module, instr: &Instr) -> bool
-    ensures { result ≡ calls_own m.now instr.now }
-{
-    match instr {
-        Instr::Call(func) => m.imports.len() <= *func as usize,
-        _ => false,
-    }
 }

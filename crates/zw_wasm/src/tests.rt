@@ -13,7 +13,9 @@ fn one<T: Drop>(alloc: Global, item: T) -> Result<Items<T>, Oom> {
 
 /// The code that gives this number.
 fn number(alloc: Global, number: i32) -> Result<Items<Instr>, Oom> {
-    Items::from_slice(alloc, &[Instr::I32Const(number), Instr::End])
+    let mut instrs = one(alloc, Instr::I32Const(number))?;
+    instrs.push(Instr::End)?;
+    Ok(instrs)
 }
 
 fn limits(least: u32, greatest: Option<u32>) -> Limits {
@@ -57,15 +59,13 @@ fn five_exports(alloc: Global) -> Result<Items<ExportDef>, Oom> {
 }
 
 fn sum_code(alloc: Global) -> Result<CodeBody, Oom> {
-    let instrs = [
-        Instr::LocalGet(0),
-        Instr::LocalGet(1),
-        Instr::I32Add,
-        Instr::End,
-    ];
+    let mut instrs = one(alloc, Instr::LocalGet(0))?;
+    instrs.push(Instr::LocalGet(1))?;
+    instrs.push(Instr::Binary(ValType::I32, BinaryOperator::Add))?;
+    instrs.push(Instr::End)?;
     Ok(CodeBody {
         locals: Items::new(alloc),
-        instrs: Items::from_slice(alloc, &instrs)?,
+        instrs,
     })
 }
 
@@ -95,10 +95,12 @@ fn import(alloc: Global) -> Result<FuncImport, Oom> {
 }
 
 fn constant(alloc: Global) -> Result<GlobalDef, Oom> {
+    let mut init = one(alloc, Instr::Unreachable)?;
+    init.push(Instr::End)?;
     Ok(GlobalDef {
         ty: ValType::I64,
         mutable: false,
-        init: Items::from_slice(alloc, &[Instr::Unreachable, Instr::End])?,
+        init,
     })
 }
 
@@ -149,29 +151,43 @@ fn the_rest(alloc: Global) -> Result<Module, Oom> {
     })
 }
 
-/// Each instruction, and numbers of more than one byte.
-fn each_instruction(alloc: Global) -> Result<Items<Instr>, Oom> {
-    let instrs = [
-        Instr::If(None),
-        Instr::Unreachable,
-        Instr::Else,
-        Instr::End,
-        Instr::If(Some(ValType::I32)),
-        Instr::End,
-        Instr::If(Some(ValType::I64)),
-        Instr::End,
-        Instr::Call(300),
-        Instr::LocalGet(1),
-        Instr::LocalSet(128),
-        Instr::GlobalGet(0),
-        Instr::GlobalSet(2),
-        Instr::I32Const(i32::MIN),
-        Instr::I32LtU,
-        Instr::I32Add,
-        Instr::I32Sub,
-        Instr::End,
-    ];
-    Items::from_slice(alloc, &instrs)
+/// An instruction of each shape of operands, with numbers of more than one byte.
+fn each_shape(alloc: Global) -> Result<Items<Instr>, Oom> {
+    let at = MemoryArgument {
+        align: 3,
+        offset: 300,
+    };
+    let table = Instr::BrTable {
+        labels: Items::from_slice(alloc, &[1, 128])?,
+        default: 0,
+    };
+    let mut instrs = one(alloc, Instr::Block(None))?;
+    instrs.push(Instr::Loop(Some(ValType::I32)))?;
+    instrs.push(Instr::If(Some(ValType::I64)))?;
+    instrs.push(table)?;
+    instrs.push(Instr::CallIndirect(300))?;
+    instrs.push(Instr::LocalTee(128))?;
+    instrs.push(Instr::Load(LoadKind::I64U32, at))?;
+    instrs.push(Instr::Store(StoreKind::I64Low32, at))?;
+    instrs.push(Instr::MemoryGrow)?;
+    instrs.push(Instr::I32Const(i32::MIN))?;
+    instrs.push(Instr::I64Const(i64::MIN))?;
+    Ok(instrs)
+}
+
+/// The ends of each range of opcodes without operands.
+fn each_range(alloc: Global) -> Result<Items<Instr>, Oom> {
+    let mut instrs = one(alloc, Instr::IsZero(ValType::I32))?;
+    instrs.push(Instr::Compare(ValType::I32, Comparison::GeU))?;
+    instrs.push(Instr::IsZero(ValType::I64))?;
+    instrs.push(Instr::Compare(ValType::I64, Comparison::GeU))?;
+    instrs.push(Instr::Unary(ValType::I32, UnaryOperator::Clz))?;
+    instrs.push(Instr::Binary(ValType::I32, BinaryOperator::Rotr))?;
+    instrs.push(Instr::Unary(ValType::I64, UnaryOperator::Clz))?;
+    instrs.push(Instr::Binary(ValType::I64, BinaryOperator::Rotr))?;
+    instrs.push(Instr::Convert(Conversion::Wrap))?;
+    instrs.push(Instr::Convert(Conversion::ExtendU))?;
+    Ok(instrs)
 }
 
 /// A module of one function with this code, and nothing else.
@@ -249,27 +265,42 @@ fn writes_the_other_sections(rt: HostRuntime) -> Result<(), Fail> {
     Ok(())
 }
 
-// The bytes of each instruction as the tables of section 5.4 have them.
+// The bytes of instructions as the tables of section 5.4 have them.
 #[rattlefmt::skip]
 #[test]
-fn writes_each_instruction(rt: HostRuntime) -> Result<(), Fail> {
-    let module = only_code(rt.alloc(), each_instruction(rt.alloc())?)?;
+fn writes_each_shape(rt: HostRuntime) -> Result<(), Fail> {
+    let module = only_code(rt.alloc(), each_shape(rt.alloc())?)?;
     let sink = written(rt.alloc(), &module)?;
-    let expected: [u8; 50] = [
+    let expected: [u8; 63] = [
         0x00, 0x61, 0x73, 0x6D, 0x01, 0x00, 0x00, 0x00,
         0x03, 0x02, 0x01, 0x00,
-        0x0A, 0x24, 0x01, 0x22, 0x00,
-        0x04, 0x40, 0x00, 0x05, 0x0B,
-        0x04, 0x7F, 0x0B,
-        0x04, 0x7E, 0x0B,
-        0x10, 0xAC, 0x02,
-        0x20, 0x01,
-        0x21, 0x80, 0x01,
-        0x23, 0x00,
-        0x24, 0x02,
+        0x0A, 0x31, 0x01, 0x2F, 0x00,
+        0x02, 0x40,
+        0x03, 0x7F,
+        0x04, 0x7E,
+        0x0E, 0x02, 0x01, 0x80, 0x01, 0x00,
+        0x11, 0xAC, 0x02, 0x00,
+        0x22, 0x80, 0x01,
+        0x35, 0x03, 0xAC, 0x02,
+        0x3E, 0x03, 0xAC, 0x02,
+        0x40, 0x00,
         0x41, 0x80, 0x80, 0x80, 0x80, 0x78,
-        0x49, 0x6A, 0x6B,
-        0x0B,
+        0x42, 0x80, 0x80, 0x80, 0x80, 0x80, 0x80, 0x80, 0x80, 0x80, 0x7F,
+    ];
+    assert_eq!(rt; sink.taken(), expected.as_slice());
+    Ok(())
+}
+
+#[rattlefmt::skip]
+#[test]
+fn writes_each_range(rt: HostRuntime) -> Result<(), Fail> {
+    let module = only_code(rt.alloc(), each_range(rt.alloc())?)?;
+    let sink = written(rt.alloc(), &module)?;
+    let expected: [u8; 27] = [
+        0x00, 0x61, 0x73, 0x6D, 0x01, 0x00, 0x00, 0x00,
+        0x03, 0x02, 0x01, 0x00,
+        0x0A, 0x0D, 0x01, 0x0B, 0x00,
+        0x45, 0x4F, 0x50, 0x5A, 0x67, 0x78, 0x79, 0x8A, 0xA7, 0xAD,
     ];
     assert_eq!(rt; sink.taken(), expected.as_slice());
     Ok(())

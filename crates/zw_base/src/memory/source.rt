@@ -31,6 +31,13 @@ impl MemSource {
             failures: Failures::new(fail),
         }
     }
+
+    /// The bytes still to come.
+    pub fn left(&self) -> &[u8]
+        ensures { result.now ≡ left_of self.now }
+    {
+        &self.bytes[self.at..]
+    }
 }
 
 impl Source for MemSource {

@@ -56,6 +56,13 @@ impl MemTree {
         self.files.push(HeldFile { path, bytes })?;
         Ok(())
     }
+
+    /// The pairs of path and answer that it has handed over so far.
+    pub fn handed(&self) -> &[Handed]
+        ensures { result.now ≡ handed_of self.now }
+    {
+        self.handed.as_slice()
+    }
 }
 
 impl Tree for MemTree {

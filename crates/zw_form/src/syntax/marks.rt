@@ -1,5 +1,6 @@
 // Single tokens of the grammar. Each reader takes the tokens that are left, and gives those that are left after it.
-ghost use Rattle.std.specs.Prelude.{◌≡◌, ℕ, ◌<◌, ◌^◌, List, length, IfSome, IfNone, IsTrue, ◌↔◌};
+ghost use Rattle.std.specs.Prelude.{◌≡◌, ℕ, ◌<◌, ◌^◌, pos, List, length, IfSome, IfNone, IsTrue, ◌↔◌};
+ghost use Rattle.std.specs.Option.{SomeIff};
 ghost use Rattle.zw_token.specs.Numbers.{is_decimal, decimal_value};
 ghost use Rattle.zw_form.specs.Grammar.{Mark, Word, Decimal, NoOperator, IsUnfit, bytes_of, sign_of};
 
@@ -62,6 +63,14 @@ pub(crate) fn after_word<'s>(text: &[u8], tokens: &'s [Token], word: &[u8]) -> O
     if name == word { Some(rest) } else { None }
 }
 
+/// The value of a decimal number of digits alone, if it isn't above 2^127 - 1.
+fn decimal_value(digits: &[u8]) -> Option<i128>
+    requires { IsTrue (is_decimal digits.now) }
+    ensures { SomeIff result (decimal_value digits.now < 2 ^ 127) (pos (decimal_value digits.now)) }
+{
+    number_value(digits)
+}
+
 /// The decimal number that these bytes are, if they are one of 32 bits.
 fn decimal_of(bytes: &[u8]) -> Option<u32>
     ensures found { IfSome result (λ n. IsTrue (is_decimal bytes.now) × (n ≡ decimal_value bytes.now)) }
@@ -70,7 +79,7 @@ fn decimal_of(bytes: &[u8]) -> Option<u32>
     if !is_decimal(bytes) {
         return None;
     }
-    u32::try_from(number_value(bytes)?).ok()
+    u32::try_from(decimal_value(bytes)?).ok()
 }
 
 /// A decimal number of 32 bits, and what is left after it.

@@ -1,10 +1,9 @@
 // The spelling of each record of a module.
 ghost use Rattle.zw_wasm.specs.Fits.{Fits32, FitsValueType, FitsFunctionType, FitsImport, FitsLimits, FitsGlobal, FitsExport, FitsElement, FitsRun, FitsCode, FitsData};
-ghost use Rattle.zw_wasm.specs.Leb.{unsigned};
+ghost use Rattle.zw_leb.specs.Leb.{unsigned};
 ghost use Rattle.zw_wasm.specs.Spelling.{value_type, function_type, limits, global, function_import, export, element, local_run, code, data_segment};
 
-use super::{Encode, push_bytes, push_each, push_vector};
-use crate::leb::push_u32;
+use super::{Encode, push_bytes, push_each, push_u32, push_vector};
 use crate::{
     CodeBody, DataSegment, Element, ExportDef, FuncImport, FuncType, GlobalDef, Limits, ValType,
 };

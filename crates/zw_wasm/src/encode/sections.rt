@@ -4,8 +4,7 @@ ghost use Rattle.zw_wasm.specs.Fits.{Fits, Fits32, FitsLimits, FitsSection, Fits
 ghost use Rattle.std.specs.List.{flat_map};
 ghost use Rattle.zw_wasm.specs.Spelling.{table_type, limits, list_section, start_section, front_sections, back_sections, spelling};
 
-use super::{Encode, push_each, push_length, push_list_section, push_section};
-use crate::leb::push_u32;
+use super::{Encode, push_each, push_length, push_list_section, push_section, push_u32};
 use crate::{Limits, Module};
 use std::alloc::Global;
 use zw_base::Oom;

@@ -43,6 +43,7 @@ fn sequence_end(instrs: &[Instr], place: usize, ends: &[SequenceEnd]) -> Sequenc
             next: place + 1,
             by_else: true,
         },
+        Instr::Block(_) | Instr::Loop(_) => ends[ends[place + 1].next],
         Instr::If(_) => ends[arms_at(instrs, ends, place).follows],
         _ => ends[place + 1],
     }

@@ -1,9 +1,10 @@
 // What single instructions do to the frame and to what outlasts it.
 ghost use Rattle.std.specs.Prelude.{◌≡◌, ◌<◌, false, length, slice_get, List, [], ◌∷◌, ◌++◌, IfOk, MatchOption, Some};
-ghost use Rattle.zw_wasm.specs.Computed.{Acts, ActsOnOperands, AreEnds, IsStep, NoI32, NoTwoI32, SetsOne, calls_own, work_at};
-ghost use Rattle.zw_wasm.specs.Reduction.{i32_add, i32_lt_u, i32_sub, on_two_i32, with_operand};
+ghost use Rattle.zw_wasm.specs.Computed.{Acts, ActsOnI32, ActsOnOperands, AreEnds, CallsImport, IsStep, NoI32, NoTwoI32, SetsOne, instr_of, work_at};
+ghost use Rattle.zw_wasm.specs.Reduction.{with_operand};
 
 use super::ends::{SequenceEnd, arms_at};
+use super::followed::Followed;
 use super::frame::{Frame, Label};
 use super::host::call_host;
 use super::{NO_RULE, RunState, UNREACHABLE};
@@ -27,16 +28,16 @@ pub fn execute(
     m: &Module,
     instrs: &[Instr],
     ends: &[SequenceEnd],
-    instr: Instr,
+    instr: Followed,
     frame: &mut Frame,
     state: &mut RunState,
 ) -> Result<Effect, AllocError>
-    requires next { work_at instrs.now frame.old.at ≡ Some instr }
+    requires next { work_at instrs.now frame.old.at ≡ Some (instr_of instr) }
     requires ends { AreEnds instrs.now ends.now }
-    requires imported { calls_own m.now instr ≡ false }
+    requires imported { CallsImport m.now instr }
     ensures { IfOk result (λ effect. IsStep m.now instrs.now frame.old state.old effect frame.new state.new) }
 {
-    if let Instr::If(ty) = instr {
+    if let Followed::If(ty) = instr {
         return choose(alloc, instrs, ends, ty, frame);
     }
     frame.at += 1;
@@ -74,25 +75,25 @@ fn choose(
 fn act(
     alloc: Global,
     m: &Module,
-    instr: Instr,
+    instr: Followed,
     frame: &mut Frame,
     state: &mut RunState,
 ) -> Result<Effect, AllocError>
-    requires { calls_own m.now instr ≡ false }
-    ensures { IfOk result (λ effect. Acts m.now instr frame.old state.old effect frame.new state.new) }
+    requires { CallsImport m.now instr }
+    ensures { IfOk result (λ effect. Acts m.now (instr_of instr) frame.old state.old effect frame.new state.new) }
 {
     match instr {
-        Instr::Unreachable => Ok(Effect::Traps(UNREACHABLE)),
-        Instr::If(_) | Instr::Else | Instr::End => Ok(Effect::Traps(NO_RULE)),
-        Instr::Call(func) => call_host(alloc, m, func, frame, state),
-        Instr::LocalGet(n) => push_one_of(frame.locals.as_slice(), n, &mut frame.operands),
-        Instr::LocalSet(n) => Ok(set_one_of(&mut frame.locals, n, &mut frame.operands)),
-        Instr::GlobalGet(n) => push_one_of(state.globals.as_slice(), n, &mut frame.operands),
-        Instr::GlobalSet(n) => Ok(set_one_of(&mut state.globals, n, &mut frame.operands)),
-        Instr::I32Const(z) => push(Num::I32(z.cast_unsigned()), &mut frame.operands),
-        Instr::I32LtU => less_than(&mut frame.operands),
-        Instr::I32Add => add(&mut frame.operands),
-        Instr::I32Sub => subtract(&mut frame.operands),
+        Followed::Unreachable => Ok(Effect::Traps(UNREACHABLE)),
+        Followed::If(_) => Ok(Effect::Traps(NO_RULE)),
+        Followed::CallHost(func) => call_host(alloc, m, func, frame, state),
+        Followed::LocalGet(n) => push_one_of(frame.locals.as_slice(), n, &mut frame.operands),
+        Followed::LocalSet(n) => Ok(set_one_of(&mut frame.locals, n, &mut frame.operands)),
+        Followed::GlobalGet(n) => push_one_of(state.globals.as_slice(), n, &mut frame.operands),
+        Followed::GlobalSet(n) => Ok(set_one_of(&mut state.globals, n, &mut frame.operands)),
+        Followed::I32Const(z) => push(Num::I32(z.cast_unsigned()), &mut frame.operands),
+        Followed::I32LtU => less_than(&mut frame.operands),
+        Followed::I32Add => add(&mut frame.operands),
+        Followed::I32Sub => subtract(&mut frame.operands),
     }
 }
 
@@ -128,7 +129,7 @@ fn set_one_of(values: &mut Items<Num>, n: u32, operands: &mut Items<Num>) -> Eff
 }
 
 fn less_than(operands: &mut Items<Num>) -> Result<Effect, AllocError>
-    ensures { IfOk result (λ effect. ActsOnOperands (λ c. on_two_i32 i32_lt_u c.frame.operands c) operands.old effect operands.new) }
+    ensures { IfOk result (λ effect. ActsOnI32 Followed.I32LtU operands.old effect operands.new) }
 {
     let Some((x, y)) = pop_two(operands) else {
         return Ok(Effect::Traps(NO_RULE));
@@ -137,7 +138,7 @@ fn less_than(operands: &mut Items<Num>) -> Result<Effect, AllocError>
 }
 
 fn add(operands: &mut Items<Num>) -> Result<Effect, AllocError>
-    ensures { IfOk result (λ effect. ActsOnOperands (λ c. on_two_i32 i32_add c.frame.operands c) operands.old effect operands.new) }
+    ensures { IfOk result (λ effect. ActsOnI32 Followed.I32Add operands.old effect operands.new) }
 {
     let Some((x, y)) = pop_two(operands) else {
         return Ok(Effect::Traps(NO_RULE));
@@ -146,7 +147,7 @@ fn add(operands: &mut Items<Num>) -> Result<Effect, AllocError>
 }
 
 fn subtract(operands: &mut Items<Num>) -> Result<Effect, AllocError>
-    ensures { IfOk result (λ effect. ActsOnOperands (λ c. on_two_i32 i32_sub c.frame.operands c) operands.old effect operands.new) }
+    ensures { IfOk result (λ effect. ActsOnI32 Followed.I32Sub operands.old effect operands.new) }
 {
     let Some((x, y)) = pop_two(operands) else {
         return Ok(Effect::Traps(NO_RULE));

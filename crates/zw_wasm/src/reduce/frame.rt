@@ -50,7 +50,7 @@ impl Frame {
         ensures { IfOk result (λ next. MatchOption next (FrameEnds instrs.now self.old self.new) (λ instr. StandsAt instrs.now self.old instr self.new)) }
     {
         loop {
-            if let Some(instr) = work_at(instrs, self.at) {
+            if let Some(instr) = work_at(alloc, instrs, self.at)? {
                 return Ok(Some(instr));
             }
             let Some(label) = self.labels.pop() else {
@@ -77,11 +77,11 @@ impl Frame {
 }
 
 /// The instruction at a place, unless a sequence ends there.
-fn work_at(instrs: &[Instr], place: usize) -> Option<Instr>
-    ensures { result ≡ work_at instrs.now place }
+fn work_at(alloc: Global, instrs: &[Instr], place: usize) -> Result<Option<Instr>, AllocError>
+    ensures { IfOk result (λ work. work ≡ work_at instrs.now place) }
 {
     match at(instrs, place) {
-        None | Some(Instr::Else | Instr::End) => None,
-        Some(instr) => Some(*instr),
+        None | Some(Instr::Else | Instr::End) => Ok(None),
+        Some(instr) => Ok(Some(instr.copy(alloc)?)),
     }
 }

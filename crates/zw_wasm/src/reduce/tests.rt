@@ -1,13 +1,24 @@
 use super::*;
-use crate::module::{CodeBody, FuncImport, FuncType, GlobalDef};
+use crate::module::{BinaryOperator, CodeBody, FuncImport, FuncType, GlobalDef};
 use std::process::Abort;
 use std::test::Fail;
+
+const ADD: Instr = Instr::Binary(ValType::I32, BinaryOperator::Add);
+
+/// The same instructions anew.
+fn copies(alloc: Global, instrs: &[Instr]) -> Result<Items<Instr>, AllocError> {
+    let mut copies = Items::new(alloc);
+    for instr in instrs {
+        copies.push(instr.copy(alloc)?)?;
+    }
+    Ok(copies)
+}
 
 fn global_zero(alloc: Global) -> Result<GlobalDef, AllocError> {
     Ok(GlobalDef {
         ty: ValType::I32,
         mutable: true,
-        init: Items::from_slice(alloc, &[Instr::I32Const(0), Instr::End])?,
+        init: copies(alloc, &[Instr::I32Const(0), Instr::End])?,
     })
 }
 
@@ -54,7 +65,7 @@ fn module_of(
     let mut codes = Items::new(alloc);
     codes.push(CodeBody {
         locals: Items::from_slice(alloc, &[(1, ValType::I64)])?,
-        instrs: Items::from_slice(alloc, instrs)?,
+        instrs: copies(alloc, instrs)?,
     })?;
     Ok(Module {
         types,
@@ -87,7 +98,7 @@ enum Seen {
     Traps(u8, u64),
     WantsReply(u64),
     StillRuns,
-    CallsOwn,
+    NotFollowed,
 }
 
 fn seen_in(end: &RunEnd) -> Seen {
@@ -96,7 +107,7 @@ fn seen_in(end: &RunEnd) -> Seen {
         RunEnd::Trapped(code, left) => Seen::Traps(*code, *left),
         RunEnd::WantsReply(left) => Seen::WantsReply(*left),
         RunEnd::StillRuns => Seen::StillRuns,
-        RunEnd::CallsOwn => Seen::CallsOwn,
+        RunEnd::NotFollowed => Seen::NotFollowed,
     }
 }
 
@@ -149,7 +160,7 @@ fn check(rt: &impl Abort, alloc: Global, instrs: &[Instr], calls: &[Call]) -> Re
 #[rattlefmt::skip]
 #[test]
 fn a_sum_wraps_in_each_call(rt: HostRuntime) -> Result<(), Fail> {
-    let sum = [Instr::LocalGet(0), Instr::LocalGet(1), Instr::I32Add, Instr::End];
+    let sum = [Instr::LocalGet(0), Instr::LocalGet(1), ADD, Instr::End];
     let enough = Call { bound: 3, ..gives(20, 3, 23, 0) };
     let too_few = Call { bound: 2, ..comes_to(20, 3, Seen::StillRuns) };
     check(&rt, rt.alloc(), &sum, &[gives(4_294_967_295, 2, 1, 7), enough, too_few])
@@ -169,58 +180,8 @@ fn code_traps(rt: HostRuntime) -> Result<(), Fail> {
     let alloc = rt.alloc();
     check(&rt, alloc, &[Instr::Unreachable, Instr::End], &[comes_to(0, 0, Seen::Traps(1, 9))])?;
     check(&rt, alloc, &[Instr::LocalGet(3), Instr::End], &[comes_to(0, 0, Seen::Traps(0, 9))])?;
-    let wide = [Instr::LocalGet(0), Instr::LocalGet(2), Instr::I32Add, Instr::End];
-    check(&rt, alloc, &wide, &[comes_to(0, 0, Seen::Traps(0, 7))])?;
-    check(&rt, alloc, &[Instr::Call(1), Instr::End], &[comes_to(0, 0, Seen::CallsOwn)])
-}
-
-#[rattlefmt::skip]
-#[test]
-fn code_returns(rt: HostRuntime) -> Result<(), Fail> {
-    let alloc = rt.alloc();
-    let nothing = Call { bound: 0, ..comes_to(0, 0, Seen::Gives(None, 0)) };
-    check(&rt, alloc, &[Instr::End, Instr::Unreachable], &[nothing])?;
-    let constant = [Instr::I32Const(-1), Instr::End];
-    check(&rt, alloc, &constant, &[gives(0, 0, 4_294_967_295, 9)])?;
-    let local = [Instr::LocalGet(2), Instr::End];
-    check(&rt, alloc, &local, &[comes_to(5, 6, Seen::Gives(Some(Num::I64(0)), 9))])
-}
-
-#[rattlefmt::skip]
-#[test]
-fn numbers_have_no_sign(rt: HostRuntime) -> Result<(), Fail> {
-    let alloc = rt.alloc();
-    let less = [Instr::LocalGet(0), Instr::LocalGet(1), Instr::I32LtU, Instr::End];
-    check(&rt, alloc, &less, &[
-        gives(0, 0xFFFF_FFFF, 1, 7), gives(0xFFFF_FFFF, 0, 0, 7), gives(7, 7, 0, 7),
-    ])?;
-    let difference = [Instr::LocalGet(0), Instr::LocalGet(1), Instr::I32Sub, Instr::End];
-    check(&rt, alloc, &difference, &[gives(3, 5, 4_294_967_294, 7), gives(5, 3, 2, 7)])
-}
-
-#[rattlefmt::skip]
-#[test]
-fn a_choice_takes_one_arm(rt: HostRuntime) -> Result<(), Fail> {
-    let either = [
-        Instr::I32Const(1000),
-        Instr::LocalGet(0),
-        Instr::If(Some(ValType::I32)), Instr::I32Const(1), Instr::Else, Instr::I32Const(2), Instr::End,
-        Instr::I32Add,
-        Instr::End,
-    ];
-    check(&rt, rt.alloc(), &either, &[gives(9, 0, 1001, 5), gives(0, 0, 1002, 5)])
-}
-
-#[rattlefmt::skip]
-#[test]
-fn an_arm_may_be_missing(rt: HostRuntime) -> Result<(), Fail> {
-    let perhaps = [
-        Instr::LocalGet(0),
-        Instr::If(None), Instr::I32Const(5), Instr::LocalSet(1), Instr::End,
-        Instr::LocalGet(1),
-        Instr::End,
-    ];
-    check(&rt, rt.alloc(), &perhaps, &[gives(1, 8, 5, 5), gives(0, 8, 8, 7)])
+    check(&rt, alloc, &[Instr::Call(1), Instr::End], &[comes_to(0, 0, Seen::NotFollowed)])?;
+    check(&rt, alloc, &[Instr::Nop, Instr::End], &[comes_to(0, 0, Seen::NotFollowed)])
 }
 
 // The code of `if (a) { if (b) 11 else 10 } else { if (b) 1 else 0 }`, plus 100.
@@ -234,7 +195,7 @@ const NESTED: [Instr; 20] = [
         Instr::LocalGet(1), Instr::If(Some(ValType::I32)),
             Instr::I32Const(1), Instr::Else, Instr::I32Const(0), Instr::End,
     Instr::End,
-    Instr::I32Add,
+    ADD,
     Instr::End,
     Instr::Unreachable,
 ];
@@ -266,36 +227,6 @@ fn a_host_call_takes_a_reply(rt: HostRuntime) -> Result<(), Fail> {
         assert_eq!(rt; call.args.as_slice(), args.as_slice());
     }
     Ok(())
-}
-
-#[test]
-fn a_reply_is_as_wide_as_the_result(rt: HostRuntime) -> Result<(), Fail> {
-    let alloc = rt.alloc();
-    let m = module_of(alloc, Some(ValType::I64), &ASKS)?;
-    let mut state = first_state(alloc, &m, &[4_294_967_301])?;
-    let seen = Seen::Gives(Some(Num::I64(4_294_967_301)), 7);
-    check_calls(&rt, alloc, &m, &mut state, &[comes_to(0, 0, seen)])
-}
-
-#[test]
-fn a_call_without_result_takes_no_reply(rt: HostRuntime) -> Result<(), Fail> {
-    let alloc = rt.alloc();
-    let m = module_of(alloc, None, &ASKS)?;
-    let mut state = first_state(alloc, &m, &[6])?;
-    let seen = Seen::Gives(None, 7);
-    check_calls(&rt, alloc, &m, &mut state, &[comes_to(0, 0, seen)])?;
-    assert_eq!(rt; state.replies.len(), 1);
-    Ok(())
-}
-
-#[rattlefmt::skip]
-#[test]
-fn a_global_is_kept(rt: HostRuntime) -> Result<(), Fail> {
-    let counts = [
-        Instr::GlobalGet(1), Instr::LocalGet(0), Instr::I32Add, Instr::GlobalSet(1),
-        Instr::GlobalGet(1), Instr::End,
-    ];
-    check(&rt, rt.alloc(), &counts, &[gives(40, 0, 40, 5), gives(2, 0, 42, 5)])
 }
 
 // Code that leaves the cause 18 and its arguments in the globals of a panic.

@@ -1,6 +1,8 @@
-use Rattle.zw_token.specs.Tables.{texts}
-use Rattle.zw_token.proofs.Places.{IsIn-from_place}
+use Rattle.std.proofs.Common.{◌≡◌, ◌↔◌, true, is_some, sym, ap, ◌∙◌, subst}
+use Rattle.zw_token.specs.Tables.{texts, IsIn}
+use Rattle.zw_token.proofs.Signs.{is_in-IsIn}
 use Rattle.zw_token.proofs.tables.has.Goals as goal
 
-pub returns : goal.returns
-returns c = rw c.is_some.ensures (IsIn-from_place (texts c.args.table.now) c.args.word.now c.place_of.result c.place_of.ensures.found c.place_of.ensures.none)
+pub returns-clause-stands : goal.returns-clause-stands
+returns-clause-stands c =
+    subst (λ b. (b ≡ true) ↔ IsIn (texts c.args.table.now) c.args.word.now) (sym (c.is_some.ensures ∙ ap is_some c.place_of.ensures.value)) (is_in-IsIn (texts c.args.table.now) c.args.word.now)

@@ -15,4 +15,7 @@ returns c = record {
   nested = refl;
   outer_else = refl;
   in_else = refl;
+  block = refl;
+  loop = refl;
+  block_in_if = refl;
 }

@@ -13,10 +13,13 @@ pub returns-clause-examples : goal.returns-clause-examples
 returns-clause-examples c = record {
   of_if = refl;
   of_else = refl;
+  of_block = refl;
   no_end = λ h. h;
   behind_end = λ h. let e : Unreachable ∷ [] ≡ [] = h in absurd cc;
   second_end = λ h. let e : End ∷ [] ≡ [] = h in absurd cc;
   no_if = λ h. h;
+  else_in_block = λ h. h;
+  else_in_loop = λ h. h;
   second_else = λ h. h;
   else_behind_if = λ h. h;
 }

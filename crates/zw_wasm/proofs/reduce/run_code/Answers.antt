@@ -1,12 +1,11 @@
-use Rattle.std.proofs.Common.{sym, ◌∙◌}
-use Rattle.zw_wasm.proofs.Running.{calls_own_function, goes_on, returns as run_returns, steps, still_runs, traps, wants_reply}
+use Rattle.zw_wasm.proofs.Running.{goes_on, other_stands, returns as run_returns, steps, still_runs, traps, wants_reply}
 use Rattle.zw_wasm.proofs.reduce.run_code.Goals as goal
 
 pub returns-then-left-eq0 : goal.returns-then-left-eq0
 returns-then-left-eq0 c = still_runs _ _ _ _ _ _ _ _ _ _ _ c.loop-frame.invariant c.if-left-eq0.true c.in-Some.is c.in_ok-instr.ensures
 
-pub returns-then-calls_own : goal.returns-then-calls_own
-returns-then-calls_own c = calls_own_function _ _ _ _ _ _ _ _ _ _ _ c.loop-frame.invariant c.in-Some.is c.in_ok-instr.ensures (sym c.calls_own.ensures ∙ c.if-calls_own.true)
+pub returns-in_default-follow : goal.returns-in_default-follow
+returns-in_default-follow c = other_stands _ _ _ _ _ _ _ _ _ _ _ _ c.loop-frame.invariant c.in-Some.is c.in_ok-instr.ensures c.follow.ensures c.in_default-follow.is
 
 pub loop-frame-preserved : goal.loop-frame-preserved
 loop-frame-preserved c = goes_on _ _ _ _ _ _ _ _ _ _ c.in-Goes.is (steps _ _ _ _ _ _ _ _ _ _ _ _ _ _ c.loop-frame.invariant c.if-left-eq0.false c.in-Some.is c.in_ok-instr.ensures c.in_ok-execute.ensures)

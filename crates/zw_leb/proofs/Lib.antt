@@ -1,0 +1,4 @@
+pub mod LebLemmas
+pub mod LebSpellings
+pub mod ShortestNumbers
+pub mod ReadLemmas

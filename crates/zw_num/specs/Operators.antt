@@ -1,0 +1,21 @@
+-- The numbers of operators and builtins, in the order that they have in `src/op.rt`.
+use Rattle.std.specs.Prelude.{ℕ, Bool, true, ◌&&◌, nat_lt, List, [], ◌∷◌}
+use Rattle.zw_num.specs.declared.op.TheConstants.{ADD, SUB, ADD_WRAP, MUL, DIV, REM, SUB_WRAP, MUL_WRAP, ADD_SAT, SUB_SAT, MUL_SAT, SHL, SHR, SHL_SAT, BIT_AND, BIT_OR, BIT_XOR, NEG, NEG_WRAP, BIT_NOT, NOT, EQUAL, NOT_EQUAL, LESS, LESS_OR_EQUAL, GREATER, GREATER_OR_EQUAL, AND, OR, OR_ELSE, CATCH, TRY, CONCATENATE, REPEAT, MERGE_ERRORS, ADDRESS_OF, DEREFERENCE, UNWRAP, AS, IMPORT, THIS, TYPE_OF, SIZE_OF, ALIGN_OF, BIT_SIZE_OF, INT_CAST, TRUNCATE, BIT_CAST, INT_FROM_ENUM, INT_FROM_BOOL, ENUM_FROM_INT, DIV_TRUNC, DIV_FLOOR, DIV_EXACT, REM_TRUNC, MOD, SHL_EXACT, SHR_EXACT, CLZ, CTZ, POP_COUNT, BYTE_SWAP, BIT_REVERSE, ABS, MIN, MAX, HAS_DECL, HAS_FIELD, FIELD, TAG_NAME, ERROR_NAME, UNION_INIT, COMPILE_ERROR, SET_EVAL_BRANCH_QUOTA, PANIC, MEMCPY, MEMSET}
+
+-- all of them
+abbrev pub operators : List ℕ
+operators =
+    ADD ∷ SUB ∷ ADD_WRAP ∷ MUL ∷ DIV ∷ REM ∷ SUB_WRAP ∷ MUL_WRAP ∷ ADD_SAT ∷ SUB_SAT ∷ MUL_SAT ∷ SHL ∷ SHR ∷
+    SHL_SAT ∷ BIT_AND ∷ BIT_OR ∷ BIT_XOR ∷ NEG ∷ NEG_WRAP ∷ BIT_NOT ∷ NOT ∷ EQUAL ∷ NOT_EQUAL ∷ LESS ∷
+    LESS_OR_EQUAL ∷ GREATER ∷ GREATER_OR_EQUAL ∷ AND ∷ OR ∷ OR_ELSE ∷ CATCH ∷ TRY ∷ CONCATENATE ∷ REPEAT ∷
+    MERGE_ERRORS ∷ ADDRESS_OF ∷ DEREFERENCE ∷ UNWRAP ∷ AS ∷ IMPORT ∷ THIS ∷ TYPE_OF ∷ SIZE_OF ∷ ALIGN_OF ∷
+    BIT_SIZE_OF ∷ INT_CAST ∷ TRUNCATE ∷ BIT_CAST ∷ INT_FROM_ENUM ∷ INT_FROM_BOOL ∷ ENUM_FROM_INT ∷ DIV_TRUNC ∷
+    DIV_FLOOR ∷ DIV_EXACT ∷ REM_TRUNC ∷ MOD ∷ SHL_EXACT ∷ SHR_EXACT ∷ CLZ ∷ CTZ ∷ POP_COUNT ∷ BYTE_SWAP ∷
+    BIT_REVERSE ∷ ABS ∷ MIN ∷ MAX ∷ HAS_DECL ∷ HAS_FIELD ∷ FIELD ∷ TAG_NAME ∷ ERROR_NAME ∷ UNION_INIT ∷
+    COMPILE_ERROR ∷ SET_EVAL_BRANCH_QUOTA ∷ PANIC ∷ MEMCPY ∷ MEMSET ∷ []
+
+-- each number of a list is below the next one
+abbrev pub is_increasing : List ℕ → Bool
+is_increasing [] = true
+is_increasing (x ∷ []) = true
+is_increasing (x ∷ (y ∷ rest)) = nat_lt x y && is_increasing (y ∷ rest)

@@ -1,0 +1,92 @@
+-- The code of operators on types of at most 32 bits.
+use Rattle.std.specs.Prelude.{ℕ, ℤ, pos, ◌+◌, ◌-◌, ◌/◌, ◌^◌, Bool, true, false, ◌&&◌, nat_eq, nat_lt, List, [], ◌∷◌, ◌++◌, if◌then◌else◌}
+use Rattle.zw_num.specs.Arithmetic.{width}
+use Rattle.zw_num.specs.declared.int_ty.IntTy.{IntTy}
+use Rattle.zw_num.specs.declared.int_ty.IntTy.TheVariants.{Sized, Comptime}
+use Rattle.zw_num.specs.declared.op.TheConstants.{ADD, SUB, MUL, ADD_WRAP, SUB_WRAP}
+use Rattle.zw_safety.specs.Code.{add_code, sub_code, if_panics}
+use Rattle.zw_session.specs.Causes.{integer_overflow}
+use Rattle.zw_wasm.specs.declared.module.BinaryOperator.{BinaryOperator}
+use Rattle.zw_wasm.specs.declared.module.BinaryOperator.TheVariants.{Add, Sub, Mul, And}
+use Rattle.zw_wasm.specs.declared.module.Comparison.TheVariants.{GtU}
+use Rattle.zw_wasm.specs.declared.module.Conversion.{Conversion}
+use Rattle.zw_wasm.specs.declared.module.Conversion.TheVariants.{Wrap, ExtendS, ExtendU}
+use Rattle.zw_wasm.specs.declared.module.Instr.{Instr}
+use Rattle.zw_wasm.specs.declared.module.Instr.TheVariants.{LocalGet, LocalSet, I32Const, I64Const, Compare, Binary, Convert}
+use Rattle.zw_wasm.specs.declared.module.ValType.TheVariants.{I32, I64}
+
+-- a number of 32 bits with its value in 64
+abbrev pub extension : IntTy → Conversion
+extension (Sized true bits) = ExtendS
+extension (Sized false bits) = ExtendU
+extension Comptime = ExtendU
+
+-- how far a number of 64 bits lies above the least value of a type
+abbrev pub above_least : IntTy → List Instr
+above_least (Sized true bits) = I64Const (pos (2 ^ bits / 2)) ∷ Binary I64 Add ∷ []
+above_least (Sized false bits) = []
+above_least Comptime = []
+
+-- the first operand in 64 bits below the second
+abbrev pub extended : IntTy → IntTy → ℕ → List Instr
+extended left right scratch =
+    Convert (extension right) ∷ LocalSet (scratch + 4) ∷ Convert (extension left) ∷ LocalGet (scratch + 4) ∷ []
+
+-- a number of 64 bits that isn't a value of the type panics
+abbrev pub in_range : IntTy → List Instr
+in_range to = above_least to ++ I64Const (pos (2 ^ width to - 1)) ∷ Compare I64 GtU ∷ if_panics integer_overflow
+
+-- the result in 64 bits, in which it is exact
+abbrev pub exact_code : BinaryOperator → IntTy → IntTy → IntTy → ℕ → List Instr
+exact_code operator left right to scratch =
+    extended left right scratch
+    ++ (Binary I64 operator ∷ LocalSet (scratch + 4) ∷ LocalGet (scratch + 4) ∷ [])
+    ++ in_range to
+    ++ (LocalGet (scratch + 4) ∷ Convert Wrap ∷ [])
+
+-- the bits of a number that a mask has
+abbrev pub masked : ℤ → List Instr
+masked mask = I32Const mask ∷ Binary I32 And ∷ []
+
+-- so far up, or so far down
+abbrev pub moved : ℤ → BinaryOperator → List Instr
+moved half operator = I32Const half ∷ Binary I32 operator ∷ []
+
+-- the same from another number on
+abbrev pub lifted : ℤ → ℤ → List Instr
+lifted half mask = moved half Add ++ masked mask ++ moved half Sub
+
+-- The value of a type with the lowest bits of a number. Of a signed type the least value is taken away before and put back.
+abbrev pub narrowed : IntTy → List Instr
+narrowed (Sized true bits) = lifted (pos (2 ^ bits / 2)) (pos (2 ^ bits - 1))
+narrowed (Sized false bits) = masked (pos (2 ^ bits - 1))
+narrowed Comptime = []
+
+-- a number of 32 bits is a value of each type of so many bits as it stands
+abbrev pub wrapped_code : BinaryOperator → IntTy → List Instr
+wrapped_code operator to = Binary I32 operator ∷ (if nat_lt (width to) 32 then narrowed to else [])
+
+-- all three types are `u32`, where the result is tested in 32 bits
+abbrev pub is_u32 : IntTy → Bool
+is_u32 (Sized false bits) = nat_eq bits 32
+is_u32 (Sized true bits) = false
+is_u32 Comptime = false
+
+abbrev pub are_u32 : IntTy → IntTy → IntTy → Bool
+are_u32 left right to = is_u32 left && (is_u32 right && is_u32 to)
+
+abbrev pub sum_code : IntTy → IntTy → IntTy → ℕ → List Instr
+sum_code left right to scratch = if are_u32 left right to then add_code scratch else exact_code Add left right to scratch
+
+abbrev pub difference_code : IntTy → IntTy → IntTy → ℕ → List Instr
+difference_code left right to scratch = if are_u32 left right to then sub_code scratch else exact_code Sub left right to scratch
+
+abbrev pub wrapping_code : ℕ → IntTy → List Instr
+wrapping_code op to =
+    if nat_eq op ADD_WRAP then wrapped_code Add to else (if nat_eq op SUB_WRAP then wrapped_code Sub to else wrapped_code Mul to)
+
+abbrev pub operator_code : ℕ → IntTy → IntTy → IntTy → ℕ → List Instr
+operator_code op left right to scratch =
+    if nat_eq op ADD then sum_code left right to scratch
+    else (if nat_eq op SUB then difference_code left right to scratch
+    else (if nat_eq op MUL then exact_code Mul left right to scratch else wrapping_code op to))
