@@ -1,0 +1,5 @@
+pub mod Trees
+pub mod ForestCode
+pub mod Numbering
+pub mod Growth
+pub mod Slots
