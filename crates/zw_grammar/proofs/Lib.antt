@@ -1,0 +1,9 @@
+pub mod NodeLemmas
+pub mod ReadingLemmas
+pub mod StepLemmas
+pub mod TreeLemmas
+pub mod LeadLemmas
+pub mod PassedLemmas
+pub mod CompletionLemmas
+pub mod EndLemmas
+pub mod LawLemmas

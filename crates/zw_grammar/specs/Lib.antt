@@ -1,0 +1,9 @@
+pub mod Plain
+pub mod Building
+pub mod Reading
+pub mod Texts
+pub mod Grammars
+pub mod Nodes
+pub mod Turns
+pub mod Completions
+pub mod Ends

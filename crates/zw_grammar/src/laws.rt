@@ -1,0 +1,32 @@
+// Laws of reading by a grammar.
+ghost use Rattle.std.specs.Prelude.{◌≡◌, ℕ, List, None};
+ghost use Rattle.zw_grammar.specs.declared.grammar.Symbol.{Symbol};
+ghost use Rattle.zw_grammar.specs.Building.{Building};
+ghost use Rattle.zw_grammar.specs.Plain.{PlainRule};
+ghost use Rattle.zw_grammar.specs.Texts.{Reads, IsWrong, IsNested};
+
+/// A text is read in one way at most: up to one terminal, with one tree.
+pub fn one_reading()
+    ensures { (rules : List PlainRule) (start : List Symbol) (text : List ℕ) (from to other : ℕ) (b c : Building) →
+        Reads rules start text from to b → Reads rules start text from other c → (to ≡ other) × (b ≡ c) }
+{}
+
+/// A text that is read with no rule nested too deep has no stop: no terminal is wrong, and none begins such a rule.
+pub fn read_or_stopped()
+    ensures wrong { (rules : List PlainRule) (start : List Symbol) (text : List ℕ) (from to place : ℕ) (b : Building) →
+        Reads rules start text from to b → IsWrong rules start text from place → ⊥ }
+    ensures nested { (rules : List PlainRule) (start : List Symbol) (text : List ℕ) (from to place : ℕ) (b : Building) →
+        Reads rules start text from to b → b.passed ≡ None → IsNested rules start text from place → ⊥ }
+{}
+
+/// At most one terminal is the first wrong one.
+pub fn one_wrong()
+    ensures { (rules : List PlainRule) (start : List Symbol) (text : List ℕ) (from place other : ℕ) →
+        IsWrong rules start text from place → IsWrong rules start text from other → place ≡ other }
+{}
+
+/// At most one terminal begins the first rule that is nested too deep.
+pub fn one_nested()
+    ensures { (rules : List PlainRule) (start : List Symbol) (text : List ℕ) (from place other : ℕ) →
+        IsNested rules start text from place → IsNested rules start text from other → place ≡ other }
+{}

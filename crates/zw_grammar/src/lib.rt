@@ -1,0 +1,12 @@
+//! A grammar as data, and the one machine that reads by it. The crate knows nothing of the language.
+#![tactic(auto)]
+
+mod builder;
+mod grammar;
+mod laws;
+mod machine;
+
+pub use builder::{Builder, Built, MAX_DEPTH};
+pub use grammar::{Alternative, Mark, Rule, Symbol};
+pub use laws::{one_nested, one_reading, one_wrong, read_or_stopped};
+pub use machine::{End, read};

@@ -1,0 +1,151 @@
+// The machine that reads by a grammar, with a stack of its own.
+ghost use Rattle.std.specs.Prelude.{◌≡◌, ℕ, ◌<◌, ◌^◌, ◌++◌, length, map, reverse, OnOk, IfOk, IsTrue, MatchOption, Some, None};
+ghost use Rattle.zw_grammar.specs.Building.{Building, nothing};
+ghost use Rattle.zw_grammar.specs.Grammars.{all_end};
+ghost use Rattle.zw_grammar.specs.Nodes.{Holds};
+ghost use Rattle.zw_grammar.specs.Plain.{plain, plain_alternative};
+ghost use Rattle.zw_grammar.specs.Reading.{is_first, first_choice, choice};
+ghost use Rattle.zw_grammar.specs.Turns.{Turns, end_of, reading};
+ghost use Rattle.zw_grammar.specs.Ends.{IsText, Ends};
+
+use crate::{Alternative, Builder, Rule, Symbol};
+use std::alloc::Global;
+use zw_base::Oom;
+
+/// How a reading ends.
+#[derive(Clone, Copy, Debug, PartialEq, Eq)]
+pub enum End {
+    /// All was read up to the terminal with this number.
+    Read(u32),
+    /// The terminal with this number can't stand there.
+    Wrong(u32),
+    /// The terminal with this number begins a rule that is nested too deep.
+    Nested(u32),
+}
+
+// What became of a terminal.
+#[derive(Clone, Copy, Debug, PartialEq, Eq)]
+enum Turn {
+    Taken,
+    Refused,
+    // It stands behind all that was to be read.
+    Behind,
+}
+
+// Whether a terminal is one of these, or there are none.
+fn is_first(first: &[u8], terminal: u8) -> bool
+    ensures { result ≡ is_first first.now terminal }
+{
+    first.is_empty() || first.contains(&terminal)
+}
+
+// What the first of these alternatives reads that the terminal chooses.
+fn first_choice(alternatives: &[Alternative], terminal: u8) -> Option<&'static [Symbol]>
+    ensures { MatchOption result (first_choice (map plain_alternative alternatives.now) terminal ≡ None)
+        (λ symbols. first_choice (map plain_alternative alternatives.now) terminal ≡ Some symbols.now) }
+{
+    for alternative in alternatives {
+        if is_first(alternative.first, terminal) {
+            return Some(alternative.symbols);
+        }
+    }
+    None
+}
+
+// What the rule with this number reads before this terminal.
+fn choose(rules: &[Rule], number: u8, terminal: u8) -> Option<&'static [Symbol]>
+    ensures { MatchOption result (choice (plain rules.now) number terminal ≡ None)
+        (λ symbols. choice (plain rules.now) number terminal ≡ Some symbols.now) }
+{
+    let rule = rules.get(number as usize)?;
+    first_choice(rule.alternatives, terminal)
+}
+
+// Puts these symbols onto the stack, the first on top.
+fn push_all(stack: &mut Vec<Symbol>, mut symbols: &[Symbol]) -> Result<(), Oom>
+    ensures { OnOk result (stack.new.items ≡ stack.old.items ++ reverse symbols.entry.now) }
+{
+    while let Some((last, others)) = symbols.split_last() {
+        stack.push(*last)?;
+        symbols = others;
+    }
+    Ok(())
+}
+
+// Reads up to the terminal with this number, and takes it.
+fn take_next(
+    rules: &[Rule],
+    terminals: &[u8],
+    at: usize,
+    stack: &mut Vec<Symbol>,
+    into: &mut Builder,
+) -> Result<Turn, Oom>
+    requires ends { IsTrue (all_end (plain rules.now) (plain rules.now)) }
+    requires within { at < length terminals.now }
+    requires length { length terminals.now < 2 ^ 32 }
+    ensures { IfOk result (λ turn. (b : Building) → Holds into.old b →
+        Turns (plain rules.now) terminals.now (reading stack.old.items at b) at turn stack.new.items into.new) }
+{
+    let terminal = terminals[at];
+    while let Some(symbol) = stack.pop() {
+        match symbol {
+            Symbol::Take(wanted) => {
+                return Ok(if terminal == wanted {
+                    Turn::Taken
+                } else {
+                    Turn::Refused
+                });
+            }
+            Symbol::Read(number) => match choose(rules, number, terminal) {
+                Some(symbols) => push_all(stack, symbols)?,
+                None => return Ok(Turn::Refused),
+            },
+            Symbol::Build(mark) => into.mark(mark, terminals, at as u32)?,
+        }
+    }
+    Ok(Turn::Behind)
+}
+
+// How the reading ends with what became of the terminal with this number, where it does.
+fn end_of(turn: Turn, passed: Option<u32>, at: u32) -> Option<End>
+    ensures { result ≡ end_of turn passed at }
+{
+    let Some(place) = passed else {
+        return match turn {
+            Turn::Taken => None,
+            Turn::Behind => Some(End::Read(at)),
+            Turn::Refused => Some(End::Wrong(at)),
+        };
+    };
+    match turn {
+        Turn::Refused if at <= place => Some(End::Wrong(at)),
+        _ => Some(End::Nested(place)),
+    }
+}
+
+/// Reads these symbols from the terminal with the number `from` on, into a builder that is new.
+pub fn read(
+    alloc: Global,
+    rules: &[Rule],
+    start: &[Symbol],
+    terminals: &[u8],
+    from: usize,
+    into: &mut Builder,
+) -> Result<End, Oom>
+    requires ends { IsTrue (all_end (plain rules.now) (plain rules.now)) }
+    requires complete { IsText (plain rules.now) start.now terminals.now }
+    requires length { length terminals.now < 2 ^ 32 }
+    requires from { from < length terminals.now }
+    requires fresh { Holds into.old nothing }
+    ensures { IfOk result (λ end. Ends (plain rules.now) start.now terminals.now from into.new end) }
+{
+    let mut stack = Vec::new(alloc);
+    push_all(&mut stack, start)?;
+    for at in from..terminals.len() {
+        let turn = take_next(rules, terminals, at, &mut stack, into)?;
+        if let Some(end) = end_of(turn, into.passed(), at as u32) {
+            return Ok(end);
+        }
+    }
+    Ok(End::Wrong(terminals.len() as u32))
+}

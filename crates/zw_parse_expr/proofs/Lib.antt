@@ -1,0 +1,3 @@
+mod Completions
+pub mod Checks
+pub mod TerminalLemmas
