@@ -1,0 +1,44 @@
+-- The table with the fields in one entry is the table before, resolved.
+use Rattle.std.proofs.Common.{◌≡◌, ◌<◌, length, All, sym, ap, subst, arith, slice_set, refl}
+use Rattle.std.proofs.lemmas.List.Elements.{All-weaker}
+use Rattle.zw_types.specs.TypeTrees.{TypeTree}
+use Rattle.zw_types.specs.Readings.{shape_tree, types_in_shape}
+use Rattle.zw_types.specs.Tables.{TypeTable, IsOpen, Keeps, resolved}
+use Rattle.zw_types.specs.Entries.{trees_of, table_of}
+use Rattle.zw_types.proofs.EntryLemmas.{length-trees_of}
+use Rattle.zw_types.proofs.TableLemmas.{with_shape, AreEntries-set, table_of-set, Keeps-resolved}
+use Rattle.zw_types.proofs.types.Types.resolve.Goals as goal
+
+pub invariant_of-self : goal.invariant_of-self
+invariant_of-self c =
+    let es = c.self.inside.entries.items in
+    let same : trees_of es ≡ c.args.self.now.trees = ap (λ (t : TypeTable). t.trees) c.self.view_is in
+    let within : c.args.id.0 < length es = omega (arith, length-trees_of es, ap (length {A = TypeTree}) same) in
+    let known : All (λ j. j < length es) (types_in_shape c.args.shape) = All-weaker (λ j. j < length c.args.self.now.trees) (λ j. j < length es) (λ j l. omega (arith, length-trees_of es, ap (length {A = TypeTree}) same)) (types_in_shape c.args.shape) c.requires.known in
+    let is_open : IsOpen (table_of es c.self.inside.errors.items) c.args.id.0 = subst (λ (t : TypeTable). IsOpen t c.args.id.0) (sym c.self.view_is) (c.if-not-is_open.ensures.0 refl) in
+    (AreEntries-set es c.args.id.0 c.index_mut.result.now within c.index_mut.ensures.value c.args.shape c.self.invariant.0 is_open known, c.self.invariant.1)
+
+pub returns-clause-done : goal.returns-clause-done
+returns-clause-done c =
+    let es = c.self.inside.entries.items in
+    let errors = c.self.inside.errors.items in
+    let e = c.index_mut.result.now in
+    let same : trees_of es ≡ c.args.self.now.trees = ap (λ (t : TypeTable). t.trees) c.self.view_is in
+    let within : c.args.id.0 < length es = omega (arith, length-trees_of es, ap (length {A = TypeTree}) same) in
+    let new = table_of-set es c.args.id.0 e within c.index_mut.ensures.value errors c.args.shape in (
+      c.if-not-is_open.ensures.0 refl,
+      subst (λ (t : TypeTable). table_of (slice_set es c.args.id.0 (with_shape e c.args.shape)) errors ≡ resolved t c.args.id.0 (shape_tree t.trees c.args.shape)) c.self.view_is new,
+    )
+
+pub returns-clause-kept : goal.returns-clause-kept
+returns-clause-kept c =
+    let es = c.self.inside.entries.items in
+    let errors = c.self.inside.errors.items in
+    let e = c.index_mut.result.now in
+    let old : TypeTable = table_of es errors in
+    let same : trees_of es ≡ c.args.self.now.trees = ap (λ (t : TypeTable). t.trees) c.self.view_is in
+    let within : c.args.id.0 < length es = omega (arith, length-trees_of es, ap (length {A = TypeTree}) same) in
+    let is_open : IsOpen old c.args.id.0 = subst (λ (t : TypeTable). IsOpen t c.args.id.0) (sym c.self.view_is) (c.if-not-is_open.ensures.0 refl) in
+    let new = table_of-set es c.args.id.0 e within c.index_mut.ensures.value errors c.args.shape in
+    subst (λ (t : TypeTable). Keeps t (table_of (slice_set es c.args.id.0 (with_shape e c.args.shape)) errors)) c.self.view_is
+    (subst (λ (t : TypeTable). Keeps old t) (sym new) (Keeps-resolved old c.args.id.0 (shape_tree old.trees c.args.shape) is_open))

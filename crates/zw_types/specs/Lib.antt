@@ -1,0 +1,6 @@
+pub mod TypeTrees
+pub mod Readings
+pub mod SameTypes
+pub mod Tables
+pub mod Entries
+pub mod TreeCodes
