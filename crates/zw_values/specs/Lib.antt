@@ -1,0 +1,5 @@
+pub mod Paths
+pub mod ObjectStore
+pub mod Wild
+pub mod Coercions
+pub mod Operations
