@@ -1,0 +1,4 @@
+pub mod Taking
+pub mod Reading
+pub mod Coding
+pub mod Ends

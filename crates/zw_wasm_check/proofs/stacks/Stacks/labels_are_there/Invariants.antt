@@ -1,0 +1,8 @@
+use Rattle.std.proofs.Common.{◌≡◌, ◌∷◌, drop}
+use Rattle.std.specs.List.{list_all}
+use Rattle.std.specs.Prelude.{is_some, slice_get}
+use Rattle.zw_wasm_check.specs.Stacks.{control_of, outer_of}
+use Rattle.zw_wasm_check.proofs.stacks.Stacks.labels_are_there.Given as goal
+
+abbrev pub invariant-loop-label : goal.invariant-loop-label
+invariant-loop-label l = list_all (λ k. is_some (slice_get (control_of l.self.control ∷ outer_of l.self.outer) k)) l.labels ≡ list_all (λ k. is_some (slice_get (control_of l.self.control ∷ outer_of l.self.outer) k)) (drop l.label-index l.labels)

@@ -1,0 +1,14 @@
+pub mod Leaving
+pub mod Uniqueness
+pub mod Exits
+pub mod ByteLemmas
+pub mod TypeLemmas
+pub mod VectorLemmas
+pub mod OperandLemmas
+pub mod InstructionLemmas
+pub mod ExpressionLemmas
+pub mod EntryLemmas
+pub mod SectionLemmas
+pub mod ModuleLemmas
+pub mod Tails
+pub mod Excluded

@@ -1,0 +1,9 @@
+pub mod Reads
+pub mod Uniqueness
+pub mod Operands
+pub mod MemoryArguments
+pub mod Nesting
+pub mod Bodies
+pub mod Tables
+pub mod Stops
+pub mod Sections

@@ -1,0 +1,19 @@
+//! Modules from their bytes (WebAssembly Core Specification 1.0, chapter 5), for the integer profile.
+#![tactic(auto)]
+
+mod bytes;
+mod entries;
+mod expressions;
+mod instructions;
+mod laws;
+mod module;
+mod opcodes;
+mod sections;
+mod stop;
+mod types;
+mod unread;
+mod vectors;
+
+pub use laws::{no_module, one_module};
+pub use module::read;
+pub use stop::{BadCode, ReadErr};
