@@ -1,0 +1,33 @@
+// Why an operation gives no value.
+ghost use Rattle.std.specs.Prelude.{◌≡◌};
+ghost use Rattle.zw_values.specs.Operations.{outcome_of_fault};
+ghost use Rattle.zw_ops.specs.Meanings.{outcome_of_cause};
+
+use zw_num::{IntTy, NumFault};
+
+/// Why an operation gives no value.
+#[derive(Clone, Copy, Debug, PartialEq, Eq)]
+pub enum Cause {
+    /// Checked illegal behaviour, by the number of its panic.
+    Panic(u8),
+    /// Unchecked illegal behaviour.
+    Wild,
+    /// The limit with this number is passed.
+    Limit(u16),
+}
+
+/// What a fault of exact arithmetic comes to in a type.
+pub(crate) fn cause_of(ty: IntTy, fault: NumFault) -> Cause
+    ensures { outcome_of_cause result ≡ outcome_of_fault ty fault }
+{
+    match (ty, fault) {
+        (IntTy::Comptime, NumFault::Overflow) => Cause::Limit(9),
+        (IntTy::Sized { .. }, NumFault::Overflow) => Cause::Panic(1),
+        (_, NumFault::DivZero) => Cause::Panic(7),
+        (_, NumFault::Remainder) => Cause::Panic(8),
+        (_, NumFault::ShiftAmount) => Cause::Panic(9),
+        (_, NumFault::ShiftBits) => Cause::Panic(10),
+        (_, NumFault::Truncated) => Cause::Panic(11),
+        (_, NumFault::Negative) => Cause::Panic(12),
+    }
+}
