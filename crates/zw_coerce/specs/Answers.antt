@@ -14,7 +14,7 @@ IsStep (Ok step) due = ((out-Step step).inner ≡ None) × (due ≡ Ok (out-Step
 IsStep (Err (code.Error number)) due = due ≡ Err number
 IsStep (Err code.Oom) due = ⊥
 
--- what row 2 answers
+-- what the row of integers answers, which is the second
 abbrev pub row_answer : Row → Result ℕ ℕ
 row_answer Applies = Ok 2
 row_answer (Refuses error) = Err error

@@ -72,7 +72,7 @@ fn has_no_value(form: &TypeForm) -> bool
     matches!(form, TypeForm::Undefined | TypeForm::NoReturn)
 }
 
-/// Row 2 for an integer type that hasn't all values of the other.
+/// The row of integers, for a type that hasn't all values of the other.
 fn known_row(known: Option<&Value>, to: IntTy) -> Result<u8, u16>
     requires { IsType to }
     ensures { (trees : List TypeTree) → result ≡ row_answer (known_row (option_map (value_tree trees) (option_copied known.entry)) to) }

@@ -37,16 +37,16 @@ has_no_value tree.UndefinedType = true
 has_no_value tree.NoReturnType = true
 has_no_value _ = false
 
--- row 1: a type and itself; `undefined` and `noreturn` and any type
+-- the first row: a type and itself; `undefined` and `noreturn` and any type
 abbrev pub same_row : TypeTree → Option ValueTree → TypeTree → Row
 same_row from known to = if is_same from to || has_no_value from then Applies else IsForOthers
 
--- what row 2 says of a value that is known as a number, and of all else
+-- what the row of integers says of a value that is known as a number, and of all else
 abbrev pub known_row : Option ValueTree → IntTy → Row
 known_row (Some (tree.NumberValue z)) to = if is_in to z then Applies else Refuses 15
 known_row _ to = Refuses 14
 
--- row 2: an integer type, and an integer type that has all its values or that has the number that is known
+-- the row of integers, the second: an integer type, and an integer type that has all its values or that has the number that is known
 abbrev pub integers_row : Option IntTy → Option ValueTree → Option IntTy → Row
 integers_row (Some from) known (Some to) = if has_all to from then Applies else known_row known to
 integers_row _ known _ = IsForOthers
