@@ -26,11 +26,10 @@ mod tests {
     use std::test::Fail;
 
     #[test]
-    fn memory_keeps_what_it_is_given(rt: HostRuntime) -> Result<(), Fail> {
+    fn a_tree_keeps_its_files(rt: HostRuntime) -> Result<(), Fail> {
         let alloc = rt.alloc();
         let path = Word::copy(alloc, b"a.zig")?;
         let other = Word::copy(alloc, b"b.zig")?;
-
         let mut tree = MemTree::new(alloc, vec![in alloc; 3]?);
         tree.add(&path, b"old")?;
         tree.add(&path, b"text")?;
@@ -38,7 +37,12 @@ mod tests {
         assert_eq!(rt; tree.load(alloc, &path, 3).err(), Some(LoadErr::TooLong));
         assert_eq!(rt; tree.load(alloc, &other, 4).err(), Some(LoadErr::Absent));
         assert_eq!(rt; tree.load(alloc, &path, 4).err(), Some(LoadErr::Failed));
+        Ok(())
+    }
 
+    #[test]
+    fn a_source_gives_its_bytes(rt: HostRuntime) -> Result<(), Fail> {
+        let alloc = rt.alloc();
         let mut source = MemSource::new(b"reply".to_vec(alloc)?, vec![in alloc; 1]?);
         let mut buf = [0u8; 3];
         assert_eq!(rt; source.read(&mut buf)?, 3);
@@ -46,7 +50,12 @@ mod tests {
         assert_eq!(rt; source.read(&mut buf), Err(Failed));
         assert_eq!(rt; source.read(&mut buf)?, 2);
         assert_eq!(rt; source.read(&mut buf)?, 0);
+        Ok(())
+    }
 
+    #[test]
+    fn a_sink_takes_bytes(rt: HostRuntime) -> Result<(), Fail> {
+        let alloc = rt.alloc();
         let mut sink = MemSink::new(alloc, vec![in alloc; 1]?, 5);
         sink.reserve(5)?;
         assert_eq!(rt; sink.put(b"abc")?, 3);

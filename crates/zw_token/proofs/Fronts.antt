@@ -124,7 +124,7 @@ longest_within (text ∷ table) rest n h =
 empty_no_sign : place_in signs [] ≡ None
 empty_no_sign = refl
 
-sign_fits : (rest : List ℕ) → Fits (length rest) (sign_front rest)
+pub sign_fits : (rest : List ℕ) → Fits (length rest) (sign_front rest)
 sign_fits rest =
     fits_at (place_in signs (take (longest_len signs rest) rest)) (longest_len signs rest) refl (longest_within signs rest 0 (omega arith))
   where

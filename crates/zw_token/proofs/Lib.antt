@@ -1,3 +1,6 @@
+pub mod Alone
+pub mod CodePoints
+pub mod Cuts
 pub mod Decimals
 pub mod Digits
 pub mod Escapes
@@ -11,3 +14,4 @@ pub mod Places
 pub mod PlainTexts
 pub mod Signs
 pub mod Stops
+pub mod Words

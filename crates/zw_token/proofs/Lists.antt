@@ -125,6 +125,11 @@ one_wrong {text} {from} {at} {place} {a} {b} (behind {t = t} gap stands rest) (h
 one_wrong {text} {from} {at} {place} {a} {b} (behind {t = t} gap stands rest) (behind {t = u} gap' stands' rest') =
     one_wrong rest (subst (λ x. WrongFrom text x.end place b) (sym (one_stand text from t u gap stands gap' stands')) rest')
 
+-- what is wrong behind a token's front is wrong behind the token
+pub past_stand : {text : List ℕ} {from at : ℕ} {error : TextError} (t : Token) → IsGap text from t.start → StandsIn text t → WrongFrom text from at error → WrongFrom text t.end at error
+past_stand {text} {from} {at} {error} t gap stands (here gap' wrong) = absurd (stands_right text from at t error gap stands gap' wrong)
+past_stand {text} {from} {at} {error} t gap stands (behind {t = u} gap' stands' rest) = subst (λ x. WrongFrom text x.end at error) (sym (one_stand text from t u gap stands gap' stands')) rest
+
 end_lies : (text : List ℕ) (t : Token) → IsEnd text t → LiesIn text t
 end_lies text t end = (omega (arith, end.start, end.end), omega (arith, end.end))
 
@@ -173,28 +178,43 @@ next_end text from t next kind =
 pub next_stands : (text : List ℕ) (from : ℕ) (t : Token) → IsNext text from t → (t.kind ≡ End → ⊥) → StandsIn text t
 next_stands text from t next kind = ⊎_elim (λ end. absurd (kind end.kind)) (λ stands. stands) next.1
 
--- these are the tokens of a text up to a place: with those from there on they are all, and what is wrong first from there on is
--- what is wrong first
+-- the next token of a text ends no earlier than where it is looked for, and in the text
+pub next_bounds : (text : List ℕ) (from : ℕ) (t : Token) → IsNext text from t → (from ≤ t.end) × (t.end ≤ length text)
+next_bounds text from t next =
+    let ordered = gap_ordered next.0 in
+    ⊎_elim (λ (end : IsEnd text t). let start = end.start in let last = end.end in (omega (arith, ordered, start, last), omega (arith, last)))
+    (λ (stands : StandsIn text t). let size = stands_size text t stands in (omega (arith, ordered, size.0), size.1)) next.1
+
+-- these are the tokens of a text up to a place: with those from there on they are all, and what is wrong first is what is wrong
+-- first from there on
 pub record TokensUpTo (text : List ℕ) (at : ℕ) (ts : List Token) : Type 0 where
   pub goes_on : (rest : List Token) → TokensFrom text at rest → TokensFrom text (start_of text) (ts ++ rest)
   pub goes_wrong : (place : ℕ) (error : TextError) → WrongFrom text at place error → WrongFrom text (start_of text) place error
+  pub stays_wrong : (place : ℕ) (error : TextError) → WrongFrom text (start_of text) place error → WrongFrom text at place error
 
 pub none_yet : (text : List ℕ) → TokensUpTo text (start_of text) []
-none_yet text = record { goes_on = λ rest h. h; goes_wrong = λ place error h. h }
+none_yet text = record { goes_on = λ rest h. h; goes_wrong = λ place error h. h; stays_wrong = λ place error h. h }
 
 pub one_more : (text : List ℕ) (at : ℕ) (ts : List Token) (t : Token) → TokensUpTo text at ts → IsGap text at t.start → StandsIn text t → TokensUpTo text t.end (ts ++ t ∷ [])
 one_more text at ts t before gap stands = record {
   goes_on = λ rest h. subst (TokensFrom text (start_of text)) (sym (append_assoc ts (t ∷ []) rest)) (before.goes_on (t ∷ rest) (more gap stands h));
   goes_wrong = λ place error h. before.goes_wrong place error (behind gap stands h);
+  stays_wrong = λ place error h. past_stand t gap stands (before.stays_wrong place error h);
 }
 
 pub all_now : (text : List ℕ) (at : ℕ) (ts : List Token) (t : Token) → TokensUpTo text at ts → IsGap text at t.start → IsEnd text t → TokensFrom text (start_of text) (ts ++ t ∷ [])
 all_now text at ts t before gap end = before.goes_on (t ∷ []) (last gap end)
 
-pub wrong_now : (text : List ℕ) (at : ℕ) (ts : List Token) (place : ℕ) (error : TextError) → TokensUpTo text at ts → IsGap text at place → BeginsWrong (drop place text) error → WrongFrom text (start_of text) place error
-wrong_now text at ts place error before gap wrong = before.goes_wrong place error (here gap wrong)
-
 -- what is wrong stands in the text
 pub wrong_within : {text : List ℕ} {from at : ℕ} {error : TextError} → WrongFrom text from at error → at < length text
 wrong_within {text} {from} {at} (here gap wrong) = omega (arith, wrong.some_left, length-drop at text)
 wrong_within (behind gap stands rest) = wrong_within rest
+
+-- and no earlier than the place from which on it is the first
+pub wrong_behind : {text : List ℕ} {from at : ℕ} {error : TextError} → WrongFrom text from at error → from ≤ at
+wrong_behind (here gap wrong) = gap_ordered gap
+wrong_behind {text} (behind {t = t} gap stands rest) =
+    let ordered = gap_ordered gap in
+    let size = stands_size text t stands in
+    let later = wrong_behind rest in
+    omega (arith, ordered, size.0, later)

@@ -17,7 +17,7 @@ use Rattle.zw_token.proofs.Fronts.{choose, index_within}
 use Rattle.zw_token.proofs.Items.{items_len_more, items_len_none, items_bytes_more, items_bytes_none}
 
 -- the length is some, and within this many
-abbrev IsLen : ℕ → Option ℕ → Type 0
+abbrev pub IsLen : ℕ → Option ℕ → Type 0
 IsLen most None = Unit {0}
 IsLen most (Some n) = (0 < n) × (n ≤ most)
 
@@ -49,7 +49,7 @@ point_within b rest =
     le : (m n : ℕ) → nat_le m n ≡ true → m ≤ n
     le m n h = grind (arith, nat_tests)
 
-item_within : (quote : ℕ) (rest : List ℕ) → IsLen (length rest) (item_len quote rest)
+pub item_within : (quote : ℕ) (rest : List ℕ) → IsLen (length rest) (item_len quote rest)
 unfolding item_len
 item_within quote [] = tt
 item_within quote (b ∷ rest) =

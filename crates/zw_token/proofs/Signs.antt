@@ -107,6 +107,17 @@ place_in-slice_get table bytes k e =
     nat_lt-false : (n m : ℕ) → m ≤ n → nat_lt n m ≡ false
     nat_lt-false n m h = grind arith
 
+-- and at no later place than another where they stand
+pub place_in-first : (table : List (List ℕ)) (bytes : List ℕ) (j k : ℕ) → place_in table bytes ≡ Some j → slice_get table k ≡ Some bytes → j ≤ k
+place_in-first table bytes j k e at =
+    let n = prefix_len (λ t. not (bytes_eq t bytes)) table in
+    let inside = slice_get_within table k bytes at in
+    let below : n ≤ k = ⊎_elim (λ beyond. absurd (false≢true (sym (not-true _ (prefix_len_passes (λ t. not (bytes_eq t bytes)) table k [] beyond)) ∙ (bytes_eq-Decides (get_or table k []) bytes).1 (get_or_from_slice_get table k bytes [] at)))) (λ h. h) (cases_lt k n) in
+    let short : n < length table = omega (arith, below, inside) in
+    let found : place_in table bytes ≡ Some n = cond-true (nat_lt n (length table)) (Some n) None (lt-ltb n (length table) short) in
+    let same : n ≡ j = same_Some n j (sym found ∙ e) in
+    omega (arith, below, same)
+
 -- and where they stand, they are found
 place_in-found : (table : List (List ℕ)) → later_differ table ≡ true → (k : ℕ) (bytes : List ℕ) → slice_get table k ≡ Some bytes → place_in table bytes ≡ Some k
 place_in-found table differ k bytes at =
@@ -150,7 +161,7 @@ longest_len_longest rest m more within is_in =
     omega (arith, size, above, more)
 
 -- where the bytes stand, some place is found
-place_in-some : (table : List (List ℕ)) (k : ℕ) (bytes : List ℕ) → slice_get table k ≡ Some bytes → is_some (place_in table bytes) ≡ true
+pub place_in-some : (table : List (List ℕ)) (k : ℕ) (bytes : List ℕ) → slice_get table k ≡ Some bytes → is_some (place_in table bytes) ≡ true
 place_in-some table k bytes at =
     let n = prefix_len (λ t. not (bytes_eq t bytes)) table in
     let inside = slice_get_within table k bytes at in

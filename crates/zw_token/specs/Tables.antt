@@ -1,5 +1,5 @@
 -- What stands in a table of words or signs.
-use Rattle.std.specs.Prelude.{◌≡◌, ℕ, ◌-◌, ◌<◌, ◌≤◌, ◌||◌, Bool, List, length, take, map, max, Option, Some, slice_get, nat_eq, nat_lt, slice_index_or, is_some, position, if◌then◌else◌}
+use Rattle.std.specs.Prelude.{◌≡◌, ℕ, suc, ◌-◌, ◌<◌, ◌≤◌, ◌&&◌, ◌||◌, Bool, true, List, [], ◌∷◌, length, take, map, max, Option, Some, slice_get, nat_eq, nat_lt, nat_le, slice_index, slice_index_or, is_some, position, if◌then◌else◌}
 use Rattle.std.specs.Borrow.{Bor}
 use Rattle.std.specs.List.{fold, starts_with}
 use Rattle.std.specs.Str.{bytes_eq}
@@ -32,6 +32,16 @@ sign_group first = if nat_lt first 33 || nat_lt 126 first then (0, 0) else slice
 -- the names of builtin functions, without their `@`
 abbrev pub builtins : List (List ℕ)
 builtins = map (λ text. text.now) BUILTINS
+
+-- from which place of a table on and up to which the texts stand that begin with this byte: `starts` has the place where those of
+-- each byte from `A` to `z` begin, and behind them the place where the last ones end
+abbrev pub letter_group : List ℕ → ℕ → ℕ × ℕ
+letter_group starts first = if nat_lt first 65 || nat_lt 122 first then (0, 0) else (slice_index starts (first - 65), slice_index starts (first - 64))
+
+-- each text of the table, whose first has the place k, stands where those are that begin with the same byte
+abbrev pub are_grouped : List ℕ → ℕ → List (List ℕ) → Bool
+are_grouped starts k [] = true
+are_grouped starts k (text ∷ table) = nat_le (letter_group starts (slice_index text 0)).0 k && nat_lt k (letter_group starts (slice_index text 0)).1 && are_grouped starts (suc k) table
 
 -- these bytes stand in the table
 abbrev pub IsIn : List (List ℕ) → List ℕ → Type 0

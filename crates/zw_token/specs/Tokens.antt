@@ -1,5 +1,5 @@
 -- The token list of a text, and where a text stops that has none.
-use Rattle.std.specs.Prelude.{◌≡◌, ℕ, ◌+◌, ◌<◌, ◌≤◌, ◌⊎◌, not, IsTrue, false, List, [], ◌∷◌, length, take, drop, nat_eq, count_by, AllPairs, Ok, Err, if◌then◌else◌}
+use Rattle.std.specs.Prelude.{◌≡◌, ℕ, ◌+◌, ◌-◌, ◌<◌, ◌≤◌, ◌⊎◌, not, IsTrue, false, List, [], ◌∷◌, length, take, drop, nat_eq, count_by, AllPairs, Ok, Err, if◌then◌else◌}
 use Rattle.std.specs.List.{list_all, starts_with, suffix_len}
 use Rattle.std.specs.Str.{IsValidUpTo}
 use Rattle.zw_base.specs.declared.stop.Place.{Place}
@@ -99,6 +99,14 @@ pub data TextStop (text : List ℕ) : ℕ → TextError → Type 0 where
 -- the token is some part of the text
 abbrev pub LiesIn : List ℕ → Token → Type 0
 LiesIn text t = (t.start ≤ t.end) × (t.end ≤ length text)
+
+-- the bytes of a token
+abbrev pub bytes_of : List ℕ → Token → List ℕ
+bytes_of text t = take (t.end - t.start) (drop t.start text)
+
+-- the bytes of a token, unless it is the end of the text, are one token of its kind when taken alone
+abbrev pub IsTokenAlone : List ℕ → Token → Type 0
+IsTokenAlone text t = (t.kind ≡ End → ⊥) → IsOfKind t.kind (bytes_of text t)
 
 -- each token ends before those behind it begin
 abbrev pub DoNotOverlap : List Token → Type 0

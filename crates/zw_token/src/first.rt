@@ -10,7 +10,8 @@ use crate::bytes::{
 use crate::literals::{item_len, items_len};
 use crate::numbers::{has_exponent, is_number};
 use crate::tables::{
-    BUILTINS, KEYWORDS, REFUSED_KEYWORDS, REFUSED_NAMES, has, longest_sign, place_of,
+    BUILTIN_STARTS, BUILTINS, KEYWORD_STARTS, KEYWORDS, REFUSED_KEYWORD_STARTS, REFUSED_KEYWORDS,
+    REFUSED_NAME_STARTS, REFUSED_NAMES, longest_sign, place_by_letter,
 };
 use crate::{TextError, TokenKind};
 
@@ -21,14 +22,15 @@ pub(crate) type Front = Result<(TokenKind, usize), TextError>;
 fn is_refused_word(word: &[u8]) -> bool
     ensures { result ≡ is_refused_word word.now }
 {
-    has(&REFUSED_KEYWORDS, word) || has(&REFUSED_NAMES, word)
+    place_by_letter(&REFUSED_KEYWORDS, &REFUSED_KEYWORD_STARTS, word).is_some()
+        || place_by_letter(&REFUSED_NAMES, &REFUSED_NAME_STARTS, word).is_some()
 }
 
 // The kind of a word that isn't refused.
 fn word_kind(word: &[u8]) -> TokenKind
     ensures { result ≡ word_kind word.now }
 {
-    match place_of(&KEYWORDS, word) {
+    match place_by_letter(&KEYWORDS, &KEYWORD_STARTS, word) {
         Some(number) => TokenKind::Keyword(number as u8),
         None => TokenKind::Name,
     }
@@ -89,7 +91,7 @@ fn first_builtin(rest: &[u8]) -> Front
     ensures { result ≡ builtin_front rest.now }
 {
     let len = word_len(rest);
-    if has(&BUILTINS, &rest[..len]) {
+    if place_by_letter(&BUILTINS, &BUILTIN_STARTS, &rest[..len]).is_some() {
         Ok((TokenKind::Builtin, len + 1))
     } else {
         Err(TextError::NotInProfile)

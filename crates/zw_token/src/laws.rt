@@ -5,7 +5,7 @@ ghost use Rattle.zw_token.specs.declared.token.Token.{Token};
 ghost use Rattle.zw_token.specs.declared.token.TokenKind.{TokenKind};
 ghost use Rattle.zw_token.specs.Numbers.{digits_value, number_of, is_number, is_decimal, decimal_value};
 ghost use Rattle.zw_token.specs.Tables.{signs, NoLongerFront};
-ghost use Rattle.zw_token.specs.Tokens.{Tokens, TextStop, BeginsToken, IsOfKind, IsWord, DoNotOverlap, LiesIn};
+ghost use Rattle.zw_token.specs.Tokens.{Tokens, TextStop, BeginsToken, IsOfKind, IsWord, DoNotOverlap, LiesIn, IsTokenAlone};
 ghost use Rattle.zw_token.specs.Values.{text_of, has_no_escape};
 
 /// A text has at most one token list.
@@ -27,6 +27,11 @@ pub fn stop_or_list()
 pub fn tokens_in_order()
     ensures within { (text : List ℕ) (list : List Token) → Tokens text list → All (LiesIn text) list }
     ensures apart { (text : List ℕ) (list : List Token) → Tokens text list → DoNotOverlap list }
+{}
+
+/// The bytes of a token, taken alone, are a token of its kind.
+pub fn tokens_alone()
+    ensures { (text : List ℕ) (list : List Token) → Tokens text list → All (IsTokenAlone text) list }
 {}
 
 /// A name is a letter or `_` and then letters, digits and `_`.

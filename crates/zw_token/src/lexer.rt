@@ -4,16 +4,16 @@ ghost use Rattle.std.specs.List.{suffix_len};
 ghost use Rattle.zw_token.specs.declared.token.Token.{Token};
 ghost use Rattle.zw_token.specs.Bytes.{starts_blank, is_line_feed};
 ghost use Rattle.zw_token.specs.Tokens.{IsGap, IsNext, BeginsWrong, LiesIn, Tokens, IsRefusal, place_at, stop_at, start_of};
-ghost use Rattle.zw_token.specs.Reading.{IsReading};
+ghost use Rattle.zw_token.specs.Reading.{IsReading, IsGoodUpTo, StopFrom};
 
-use crate::bad::first_bad_byte;
+use crate::bad::look_up_to;
 use crate::bytes::{blank_len, starts_blank};
 use crate::first::first_token;
 use crate::{TextError, Token, TokenKind};
 use std::alloc::Global;
 use zw_base::{Oom, Place, Refused, Stop, StopKind};
 
-/// What reading a text from the left comes to: its tokens, or the place of the first wrong one.
+/// What reading a text from the left comes to: its tokens, or where it stops.
 #[derive(Drop)]
 pub(crate) enum Reading {
     Tokens(Vec<Token>),
@@ -72,21 +72,44 @@ fn next_token(text: &[u8], from: usize) -> Result<Token, (usize, TextError)>
     }
 }
 
-/// The tokens of a text, bad bytes or not, or its first wrong token.
+/// The next token from a place on, up to whose end no bad byte stands, and how far the text is UTF-8; or the place of the
+/// first bad byte or wrong token. No bad byte stands before the place, and the text is UTF-8 up to `valid`.
+fn good_token(text: &[u8], from: usize, valid: usize) -> Result<(Token, usize), (usize, TextError)>
+    requires length { length text.now ≤ 4194304 }
+    requires good { IsGoodUpTo text.now from valid }
+    ensures found { IfOk result (λ found. IsNext text.now from found.0) }
+    ensures good { IfOk result (λ found. IsGoodUpTo text.now found.0.end found.1) }
+    ensures stop { IfErr result (λ stop. StopFrom text.now from stop.0 stop.1) }
+{
+    match next_token(text, from) {
+        Ok(token) => match look_up_to(text, from, valid, token.end as usize) {
+            Ok(valid) => Ok((token, valid)),
+            Err(bad) => Err((bad, TextError::BadByte)),
+        },
+        Err((place, error)) => match look_up_to(text, from, valid, place + 1) {
+            Ok(_) => Err((place, error)),
+            Err(bad) => Err((bad, TextError::BadByte)),
+        },
+    }
+}
+
+/// The tokens of a text, or where it stops.
 fn read_tokens(alloc: Global, text: &[u8]) -> Result<Reading, Oom>
     requires { length text.now ≤ 4194304 }
     ensures { IfOk result (IsReading text.now) }
 {
     let mut list = Vec::new(alloc);
     let mut at = start_of(text);
+    let mut valid = at;
     loop {
-        match next_token(text, at) {
-            Ok(token) => {
+        match good_token(text, at, valid) {
+            Ok((token, good)) => {
                 list.push(token).map_err(Oom::from)?;
                 if let TokenKind::End = token.kind {
                     return Ok(Reading::Tokens(list));
                 }
                 at = token.end as usize;
+                valid = good;
             }
             Err((place, error)) => return Ok(Reading::Wrong(place, error)),
         }
@@ -154,21 +177,8 @@ pub fn tokens(alloc: Global, file: u32, text: &[u8]) -> Result<Vec<Token>, Refus
     ensures within { IfOk result (λ list. All (LiesIn text.now) list.items) }
     ensures refused { IfErr result (IsRefusal file text.now) }
 {
-    let bad = first_bad_byte(text);
     match read_tokens(alloc, text)? {
-        Reading::Tokens(list) => match bad {
-            None => Ok(list),
-            Some(bad) => Err(stop_at(file, text, bad, TextError::BadByte)),
-        },
-        Reading::Wrong(at, error) => match bad {
-            Some(bad) => {
-                if bad <= at {
-                    Err(stop_at(file, text, bad, TextError::BadByte))
-                } else {
-                    Err(stop_at(file, text, at, error))
-                }
-            }
-            None => Err(stop_at(file, text, at, error)),
-        },
+        Reading::Tokens(list) => Ok(list),
+        Reading::Wrong(at, error) => Err(stop_at(file, text, at, error)),
     }
 }

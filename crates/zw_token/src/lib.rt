@@ -15,7 +15,7 @@ mod values;
 
 pub use laws::{
     decimals_are_numbers, digits_alone, names_are_words, one_list, one_stop, signs_are_longest,
-    stop_or_list, texts_without_escapes, tokens_in_order,
+    stop_or_list, texts_without_escapes, tokens_alone, tokens_in_order,
 };
 pub use lexer::tokens;
 pub use names::{is_primitive_name, is_refused_name};

@@ -8,8 +8,8 @@ ghost use Rattle.zw_token.specs.Numbers.{digits_value};
 use crate::numbers::digits_value;
 use std::str::from_utf8;
 
-// How many bytes of a code point follow its first.
-fn continuation_len(first: u8) -> usize
+/// How many bytes of a code point follow its first.
+pub(crate) fn continuation_len(first: u8) -> usize
     ensures { result ≡ continuation_len first }
 {
     if first < 128 {
@@ -23,8 +23,8 @@ fn continuation_len(first: u8) -> usize
     }
 }
 
-// Whether these bytes are UTF-8.
-fn is_utf8(bytes: &[u8]) -> bool
+/// Whether these bytes are UTF-8.
+pub(crate) fn is_utf8(bytes: &[u8]) -> bool
     ensures { result ≡ is_utf8 bytes.now }
 {
     match from_utf8(bytes) {

@@ -1,7 +1,7 @@
 // The lists of keywords and signs, apart so that each stands once: the definitions cite them too.
 ghost use Rattle.std.specs.Prelude.{◌≡◌, ◌↔◌, ◌<◌, ◌≤◌, ℕ, IsTrue, IfSome, IfNone, Some, slice_get, length, take, position, slice_index};
 ghost use Rattle.std.specs.Str.{bytes_eq};
-ghost use Rattle.zw_token.specs.Tables.{texts, signs, sign_group, place_in, is_in, IsIn, NoLongerFront};
+ghost use Rattle.zw_token.specs.Tables.{texts, signs, sign_group, place_in, is_in, letter_group, are_grouped, IsIn, NoLongerFront};
 
 /// The keywords, in alphabetical order (Zig Language Reference 0.13.0, Keyword Reference).
 pub const KEYWORDS: [&str; 32] = [
@@ -39,7 +39,14 @@ pub const KEYWORDS: [&str; 32] = [
     "while",
 ];
 
-// Keywords of Zig that are refused. `packed` is in both lists.
+// At which place of `KEYWORDS` the words begin that begin with each byte from `A` to `z`, and where the last ones end.
+pub(crate) const KEYWORD_STARTS: [u8; 59] = [
+    0, 0, 0, 0, 0, 0, 0, 0, 0, 0, 0, 0, 0, 0, 0, 0, 0, 0, 0, 0, 0, 0, 0, 0, 0, 0, 0, 0, 0, 0, 0, 0,
+    0, 2, 3, 7, 8, 14, 16, 16, 16, 18, 18, 18, 18, 18, 19, 21, 23, 23, 24, 26, 28, 30, 31, 32, 32,
+    32, 32,
+];
+
+// Keywords of Zig that are refused, in alphabetical order. `packed` is in both lists.
 pub(crate) const REFUSED_KEYWORDS: [&str; 18] = [
     "addrspace",
     "align",
@@ -53,12 +60,18 @@ pub(crate) const REFUSED_KEYWORDS: [&str; 18] = [
     "noalias",
     "nosuspend",
     "opaque",
+    "packed",
     "resume",
     "suspend",
     "threadlocal",
     "usingnamespace",
     "volatile",
-    "packed",
+];
+
+// The same for `REFUSED_KEYWORDS`.
+pub(crate) const REFUSED_KEYWORD_STARTS: [u8; 59] = [
+    0, 0, 0, 0, 0, 0, 0, 0, 0, 0, 0, 0, 0, 0, 0, 0, 0, 0, 0, 0, 0, 0, 0, 0, 0, 0, 0, 0, 0, 0, 0, 0,
+    0, 7, 7, 8, 8, 8, 8, 8, 8, 8, 8, 8, 9, 9, 11, 12, 13, 13, 14, 15, 16, 17, 18, 18, 18, 18, 18,
 ];
 
 /// The signs: operators and punctuation (Zig Language Reference 0.13.0, Operators and Grammar).
@@ -69,58 +82,59 @@ pub const SIGNS: [&str; 62] = [
     "..", "...", ".*", ".?", ",", ";", ":", "?", "(", ")", "[", "]", "{", "}",
 ];
 
-/// The builtin functions, without their `@` (Zig Language Reference 0.13.0, Builtin Functions; of these the profile has
-/// only some).
+/// The builtin functions, without their `@`, in alphabetical order (Zig Language Reference 0.13.0, Builtin Functions; of these
+/// the profile has only some).
 pub const BUILTINS: [&str; 39] = [
-    "as",
-    "import",
     "This",
     "TypeOf",
-    "sizeOf",
-    "alignOf",
-    "bitSizeOf",
-    "intCast",
-    "truncate",
-    "bitCast",
-    "intFromEnum",
-    "intFromBool",
-    "enumFromInt",
-    "divTrunc",
-    "divFloor",
-    "divExact",
-    "rem",
-    "mod",
-    "shlExact",
-    "shrExact",
-    "clz",
-    "ctz",
-    "popCount",
-    "byteSwap",
-    "bitReverse",
     "abs",
-    "min",
-    "max",
+    "alignOf",
+    "as",
+    "bitCast",
+    "bitReverse",
+    "bitSizeOf",
+    "byteSwap",
+    "clz",
+    "compileError",
+    "ctz",
+    "divExact",
+    "divFloor",
+    "divTrunc",
+    "enumFromInt",
+    "errorName",
+    "field",
     "hasDecl",
     "hasField",
-    "field",
-    "tagName",
-    "errorName",
-    "unionInit",
-    "compileError",
-    "setEvalBranchQuota",
-    "panic",
+    "import",
+    "intCast",
+    "intFromBool",
+    "intFromEnum",
+    "max",
     "memcpy",
     "memset",
+    "min",
+    "mod",
+    "panic",
+    "popCount",
+    "rem",
+    "setEvalBranchQuota",
+    "shlExact",
+    "shrExact",
+    "sizeOf",
+    "tagName",
+    "truncate",
+    "unionInit",
 ];
 
-// The names of primitive types of Zig that aren't in the profile.
+// The same for `BUILTINS`.
+pub(crate) const BUILTIN_STARTS: [u8; 59] = [
+    0, 0, 0, 0, 0, 0, 0, 0, 0, 0, 0, 0, 0, 0, 0, 0, 0, 0, 0, 0, 2, 2, 2, 2, 2, 2, 2, 2, 2, 2, 2, 2,
+    2, 5, 9, 12, 15, 17, 18, 18, 20, 24, 24, 24, 24, 29, 29, 29, 31, 31, 32, 36, 38, 39, 39, 39,
+    39, 39, 39,
+];
+
+// The names of primitive types of Zig that aren't in the profile, by their first letter.
 pub(crate) const REFUSED_NAMES: [&str; 17] = [
-    "f16",
-    "f32",
-    "f64",
-    "f80",
-    "f128",
-    "comptime_float",
     "anyopaque",
     "c_char",
     "c_short",
@@ -132,6 +146,19 @@ pub(crate) const REFUSED_NAMES: [&str; 17] = [
     "c_longlong",
     "c_ulonglong",
     "c_longdouble",
+    "comptime_float",
+    "f16",
+    "f32",
+    "f64",
+    "f80",
+    "f128",
+];
+
+// The same for `REFUSED_NAMES`.
+pub(crate) const REFUSED_NAME_STARTS: [u8; 59] = [
+    0, 0, 0, 0, 0, 0, 0, 0, 0, 0, 0, 0, 0, 0, 0, 0, 0, 0, 0, 0, 0, 0, 0, 0, 0, 0, 0, 0, 0, 0, 0, 0,
+    0, 1, 1, 12, 12, 12, 17, 17, 17, 17, 17, 17, 17, 17, 17, 17, 17, 17, 17, 17, 17, 17, 17, 17,
+    17, 17, 17,
 ];
 
 // For each byte from `!` (33) to `~` (126), from which place of `SIGNS` on and up to which the signs stand that begin with it.
@@ -276,6 +303,47 @@ pub(crate) fn has(table: &[&str], word: &[u8]) -> bool
     ensures stands { IsTrue result ↔ IsIn (texts table.now) word.now }
 {
     place_of(table, word).is_some()
+}
+
+// Where the texts of a table stand that begin with this byte.
+fn letter_group(starts: &[u8; 59], first: u8) -> (usize, usize)
+    ensures from { result.0 ≡ (letter_group starts.now first).0 }
+    ensures to { result.1 ≡ (letter_group starts.now first).1 }
+{
+    if first < b'A' || b'z' < first {
+        return (0, 0);
+    }
+    let letter = (first - b'A') as usize;
+    (starts[letter] as usize, starts[letter + 1] as usize)
+}
+
+// The place of these bytes in a table that has them in this part alone.
+fn place_in_part(table: &[&str], from: usize, to: usize, word: &[u8]) -> Option<usize>
+    requires { (k : ℕ) → slice_get (texts table.now) k ≡ Some word.now → (from ≤ k) × (k < to) }
+    ensures value { result ≡ place_in (texts table.now) word.now }
+    ensures within { IfSome result (λ k. k < length table.now) }
+{
+    let to = to.min(table.len());
+    let from = from.min(to);
+    match place_of(&table[from..to], word) {
+        Some(place) => Some(from + place),
+        None => None,
+    }
+}
+
+// The place of these bytes in a table of which only the texts with the same first letter are looked at.
+pub(crate) fn place_by_letter(table: &[&str], starts: &[u8; 59], word: &[u8]) -> Option<usize>
+    requires { IsTrue (are_grouped starts.now 0 (texts table.now)) }
+    ensures value { result ≡ place_in (texts table.now) word.now }
+    ensures within { IfSome result (λ k. k < length table.now) }
+{
+    match word {
+        [first, ..] => {
+            let (from, to) = letter_group(starts, *first);
+            place_in_part(table, from, to, word)
+        }
+        [] => None,
+    }
 }
 
 // How many bytes of the text are the bytes of `sign`: all or none.
