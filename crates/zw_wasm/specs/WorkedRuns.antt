@@ -69,6 +69,12 @@ said n = record { name = codes "say"; args = Number (pos n) ∷ []; shown = [] }
 abbrev pub asked : List ℕ → HostEvent
 asked bytes = record { name = codes "ask"; args = []; shown = bytes ∷ [] }
 
+-- `if (a) { if (b) 11 else 10 } else { if (b) 1 else 0 }`, plus 100
+abbrev pub nested_choices : List Instr
+nested_choices =
+    I32Const (pos 100) ∷ LocalGet 0 ∷ If (Some ty.I32) ∷ LocalGet 1 ∷ If (Some ty.I32) ∷ I32Const (pos 11) ∷ Else ∷ I32Const (pos 10) ∷ End
+    ∷ Else ∷ LocalGet 1 ∷ If (Some ty.I32) ∷ I32Const (pos 1) ∷ Else ∷ I32Const (pos 0) ∷ End ∷ End ∷ i32_add ∷ End ∷ Unreachable ∷ []
+
 pub record WorkedCalls : Type 0 where
   -- the first argument is the first parameter; what lies below the arguments stays there
   pub call : worked_call (LocalGet 0 ∷ LocalGet 1 ∷ instr.Call 2 ∷ End ∷ []) 10 3 [] 8 ≡ gives [] 7 0 [] 2
@@ -85,6 +91,11 @@ pub record WorkedCalls : Type 0 where
   pub second : worked_call (LocalGet 0 ∷ LocalGet 1 ∷ If (Some ty.I32) ∷ I32Const (pos 100) ∷ Else ∷ I32Const (pos 200) ∷ End ∷ i32_sub ∷ End ∷ []) 300 0 [] 5 ≡ gives [] 100 0 [] 0
   pub passed : worked_call (LocalGet 0 ∷ LocalGet 1 ∷ If None ∷ Unreachable ∷ End ∷ End ∷ []) 7 0 [] 3 ≡ gives [] 7 0 [] 0
   pub taken : worked_call (LocalGet 0 ∷ LocalGet 1 ∷ If None ∷ Unreachable ∷ End ∷ End ∷ []) 7 1 [] 9 ≡ halts [] (Trapped unreachable_trap)
+  -- choices nest, and what stands behind the code's end isn't reached
+  pub both : worked_call nested_choices 1 1 [] 10 ≡ gives [] 111 0 [] 3
+  pub first_alone : worked_call nested_choices 1 0 [] 10 ≡ gives [] 110 0 [] 3
+  pub second_alone : worked_call nested_choices 0 1 [] 10 ≡ gives [] 101 0 [] 3
+  pub neither : worked_call nested_choices 0 0 [] 10 ≡ gives [] 100 0 [] 3
   -- locals are 0 at first, and parameters are set like other locals
   pub zeros : worked_call (LocalGet 2 ∷ End ∷ []) 10 3 [] 1 ≡ gives [] 0 0 [] 0
   pub sets : worked_call (LocalGet 0 ∷ LocalSet 2 ∷ LocalGet 1 ∷ LocalSet 0 ∷ LocalGet 2 ∷ LocalGet 0 ∷ i32_sub ∷ End ∷ []) 10 3 [] 7 ≡ gives [] 7 0 [] 0
