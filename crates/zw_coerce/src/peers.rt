@@ -7,11 +7,11 @@ ghost use Rattle.zw_values.specs.Coercions.{is_no_return, is_undefined_type, pee
 ghost use Rattle.zw_coerce.specs.Answers.{peer_in};
 
 use crate::answers::Code;
-use crate::integers::{has_all, integer_type};
-use crate::rows::is_same;
+use crate::integers::has_all;
 use std::alloc::Global;
 use zw_num::IntTy;
 use zw_types::{TypeForm, TypeId, Types};
+use zw_values::{integer_type, is_same};
 
 /// The type that several types have in common (Zig Language Reference 0.13.0, Peer Type Resolution), taken from the left; error
 /// 14 exactly where there is none. It takes no memory so far, and adds no type.

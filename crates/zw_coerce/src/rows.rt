@@ -4,14 +4,15 @@ ghost use Rattle.std.specs.Option.{option_map, option_copied};
 ghost use Rattle.zw_num.specs.Arithmetic.{IsType};
 ghost use Rattle.zw_types.specs.TypeTrees.{TypeTree};
 ghost use Rattle.zw_types.specs.Readings.{type_at, form_tree, value_tree};
-ghost use Rattle.zw_values.specs.Coercions.{is_same, has_no_value, has_all, known_row, coercion};
+ghost use Rattle.zw_values.specs.Coercions.{has_no_value, has_all, known_row, coercion};
 ghost use Rattle.zw_coerce.specs.Answers.{IsStep, row_answer};
 
 use crate::answers::{Code, Step};
-use crate::integers::{has_all, integer_type, is_in};
+use crate::integers::has_all;
 use std::alloc::Global;
 use zw_num::IntTy;
 use zw_types::{TypeForm, TypeId, Types, Value};
+use zw_values::{integer_type, is_same};
 
 /// The error of a type that doesn't become the other one.
 const TYPE_MISMATCH: u16 = 14;
@@ -55,16 +56,6 @@ fn row(types: &Types, from: TypeId, known: Option<&Value>, to: TypeId) -> Result
     }
 }
 
-/// Whether two numbers name the same type.
-pub(crate) fn is_same(types: &Types, a: TypeId, b: TypeId) -> bool
-    requires a_held { a.0 < length types.now.trees }
-    requires b_held { b.0 < length types.now.trees }
-    ensures { result ≡ is_same (type_at types.now.trees a) (type_at types.now.trees b) }
-{
-    let _ = types.get(a);
-    a.0 == b.0
-}
-
 /// Whether values of this form are none of their own: `undefined` and `noreturn`.
 fn has_no_value(form: &TypeForm) -> bool
     ensures { (trees : List TypeTree) → result ≡ has_no_value (form_tree trees form.now) }
@@ -78,7 +69,7 @@ fn known_row(known: Option<&Value>, to: IntTy) -> Result<u8, u16>
     ensures { (trees : List TypeTree) → result ≡ row_answer (known_row (option_map (value_tree trees) (option_copied known.entry)) to) }
 {
     match known {
-        Some(Value::Number(number)) if is_in(to, *number) => Ok(2),
+        Some(Value::Number(number)) if to.contains(*number) => Ok(2),
         Some(Value::Number(_)) => Err(OUT_OF_RANGE),
         _ => Err(TYPE_MISMATCH),
     }

@@ -15,7 +15,7 @@ pub enum IntTy {
 
 impl IntTy {
     /// The least value of the type.
-    pub(crate) fn least(self) -> i128
+    pub fn least(self) -> i128
         requires { IsType self }
         ensures { result ≡ least self }
     {
@@ -27,7 +27,7 @@ impl IntTy {
     }
 
     /// The greatest value of the type.
-    pub(crate) fn greatest(self) -> i128
+    pub fn greatest(self) -> i128
         requires { IsType self }
         ensures { result ≡ greatest self }
     {

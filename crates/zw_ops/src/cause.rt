@@ -1,8 +1,9 @@
 // Why an operation gives no value.
-ghost use Rattle.std.specs.Prelude.{◌≡◌};
+ghost use Rattle.std.specs.Prelude.{◌≡◌, Some};
 ghost use Rattle.zw_values.specs.Operations.{outcome_of_fault};
 ghost use Rattle.zw_ops.specs.Meanings.{outcome_of_cause};
 
+use zw_base::Oom;
 use zw_num::{IntTy, NumFault};
 
 /// Why an operation gives no value.
@@ -14,11 +15,23 @@ pub enum Cause {
     Wild,
     /// The limit with this number is passed.
     Limit(u16),
+    /// Want of memory.
+    Oom,
+}
+
+impl From<Oom> for Cause {
+    ghost use Rattle.zw_ops.specs.declared.cause.Cause.TheVariants.{Oom};
+
+    ghost from_gives = { λ _ e. e ≡ Oom };
+
+    fn from(_: Oom) -> Cause {
+        Cause::Oom
+    }
 }
 
 /// What a fault of exact arithmetic comes to in a type.
 pub(crate) fn cause_of(ty: IntTy, fault: NumFault) -> Cause
-    ensures { outcome_of_cause result ≡ outcome_of_fault ty fault }
+    ensures { outcome_of_cause result ≡ Some (outcome_of_fault ty fault) }
 {
     match (ty, fault) {
         (IntTy::Comptime, NumFault::Overflow) => Cause::Limit(9),

@@ -3,3 +3,4 @@ pub mod ObjectStore
 pub mod Wild
 pub mod Coercions
 pub mod Operations
+pub mod WorkedOperations

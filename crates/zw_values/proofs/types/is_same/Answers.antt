@@ -8,7 +8,7 @@ use Rattle.zw_types.specs.Readings.{type_at}
 use Rattle.zw_types.proofs.ListLemmas.{one_place}
 use Rattle.zw_values.specs.Coercions.{is_same}
 use Rattle.zw_values.proofs.SameLemmas.{is_same-refl, is_same-apart}
-use Rattle.zw_coerce.proofs.rows.is_same.Goals as goal
+use Rattle.zw_values.proofs.types.is_same.Goals as goal
 
 pub returns : goal.returns
 returns c =

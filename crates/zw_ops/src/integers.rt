@@ -1,46 +1,19 @@
 // Operators on integers.
-ghost use Rattle.std.specs.Prelude.{◌≡◌, ◌+ℤ◌, ◌-ℤ◌, ◌*ℤ◌, List};
+ghost use Rattle.std.specs.Prelude.{◌≡◌, ◌+ℤ◌, ◌-ℤ◌, ◌*ℤ◌};
 ghost use Rattle.zw_num.specs.Arithmetic.{IsType, IsIn};
-ghost use Rattle.zw_types.specs.TypeTrees.{TypeTree};
-ghost use Rattle.zw_types.specs.Readings.{value_tree};
 ghost use Rattle.zw_values.specs.Operations as operation;
-ghost use Rattle.zw_ops.specs.Meanings.{binary_of, shift_of, outcome_of_result, IsOperand, IsShiftable, IsAmountOf};
+ghost use Rattle.zw_ops.specs.Meanings.{binary_of, shift_of};
+ghost use Rattle.zw_ops.specs.Operands.{IsAmountOf};
 
-use crate::cause::{Cause, cause_of};
 use crate::operators::{Binary, Shift};
 use zw_num::{
     IntTy, NumFault, add, add_sat, add_wrap, bit_and, bit_or, bit_xor, div_exact, div_floor,
     div_trunc, modulo, mul, mul_sat, mul_wrap, rem, shl, shl_exact, shl_sat, shr, shr_exact, sub,
     sub_sat, sub_wrap,
 };
-use zw_types::Value;
-
-/// An operator on two values of an integer type, which is the result's. `Wild` exactly where one of them is undefined.
-pub fn binary(op: Binary, ty: IntTy, a: &Value, b: &Value) -> Result<Value, Cause>
-    requires is_type { IsType ty }
-    requires a_fits { IsOperand ty a.now }
-    requires b_fits { IsOperand ty b.now }
-    ensures { (types : List TypeTree) → outcome_of_result types result ≡
-        operation.binary_on_values (binary_of op) ty (value_tree types a.now) (value_tree types b.now) }
-{
-    match (a, b) {
-        (Value::Number(a), Value::Number(b)) => answer(ty, binary_number(op, ty, *a, *b)),
-        _ => Err(Cause::Wild),
-    }
-}
-
-/// A number that an operation came to, or the cause.
-fn answer(ty: IntTy, result_: Result<i128, NumFault>) -> Result<Value, Cause>
-    ensures { (types : List TypeTree) → outcome_of_result types result ≡ operation.outcome_of ty result_ }
-{
-    match result_ {
-        Ok(number) => Ok(Value::Number(number)),
-        Err(fault) => Err(cause_of(ty, fault)),
-    }
-}
 
 /// An operator on two integers of a type.
-fn binary_number(op: Binary, ty: IntTy, a: i128, b: i128) -> Result<i128, NumFault>
+pub(crate) fn binary_number(op: Binary, ty: IntTy, a: i128, b: i128) -> Result<i128, NumFault>
     requires is_type { IsType ty }
     requires a_in { IsIn ty a }
     requires b_in { IsIn ty b }
@@ -58,8 +31,6 @@ fn binary_number(op: Binary, ty: IntTy, a: i128, b: i128) -> Result<i128, NumFau
         Binary::BitAnd => Ok(bit_and(ty, a, b)),
         Binary::BitOr => Ok(bit_or(ty, a, b)),
         Binary::BitXor => Ok(bit_xor(ty, a, b)),
-        Binary::Min => Ok(a.min(b)),
-        Binary::Max => Ok(a.max(b)),
         Binary::AddWrap => add_wrapping(ty, a, b),
         Binary::AddSat => add_saturating(ty, a, b),
         Binary::SubWrap => sub_wrapping(ty, a, b),
@@ -141,25 +112,11 @@ fn mul_saturating(ty: IntTy, a: i128, b: i128) -> Result<i128, NumFault>
     }
 }
 
-/// A shift of a value of an integer type, which is the result's, by an amount. `Wild` exactly where one of them is undefined.
-pub fn shift(op: Shift, ty: IntTy, a: &Value, b: &Value) -> Result<Value, Cause>
-    requires is_type { IsType ty }
-    requires a_fits { IsOperand ty a.now }
-    requires b_fits { IsShiftable op b.now }
-    ensures { (types : List TypeTree) → outcome_of_result types result ≡
-        operation.shift_on_values (shift_of op) ty (value_tree types a.now) (value_tree types b.now) }
-{
-    match (a, b) {
-        (Value::Number(a), Value::Number(b)) => answer(ty, shift_number(op, ty, *a, *b)),
-        _ => Err(Cause::Wild),
-    }
-}
-
 /// A shift of an integer of a type.
-fn shift_number(op: Shift, ty: IntTy, a: i128, b: i128) -> Result<i128, NumFault>
+pub(crate) fn shift_number(op: Shift, ty: IntTy, a: i128, b: i128) -> Result<i128, NumFault>
     requires is_type { IsType ty }
     requires a_in { IsIn ty a }
-    requires b_fits { IsAmountOf op b }
+    requires b_fits { IsAmountOf (shift_of op) b }
     ensures { result ≡ operation.shift (shift_of op) ty a b }
 {
     match op {
