@@ -1,10 +1,10 @@
 -- What was read of a text can be completed.
-use Rattle.std.proofs.Common.{◌≡◌, ℕ, zero, suc, ◌+◌, ◌-◌, ◌<◌, ◌≤◌, Bool, true, false, cond, ◌&&◌, ◌||◌, not, ◌==◌, nat_lt, List, [], ◌∷◌, ◌++◌, length, Option, Some, None, slice_get, refl, sym, ap, ◌∙◌, subst, append_assoc, arith}
+use Rattle.std.proofs.Common.{◌≡◌, ℕ, zero, suc, ◌+◌, ◌<◌, ◌≤◌, Bool, true, false, cond, ◌&&◌, ◌||◌, not, ◌==◌, nat_lt, List, [], ◌∷◌, ◌++◌, Option, Some, None, slice_get, refl, sym, ap, ◌∙◌, subst, append_assoc, arith}
 use Rattle.std.specs.List.{list_all, list_any}
 use Rattle.std.specs.Option.{option_map}
 use Rattle.std.specs.Prelude.{option_and_then}
 use Rattle.std.proofs.lemmas.Bool.{eqb-true, eq-eqb}
-use Rattle.zw_grammar.specs.Plain.{PlainAlternative, PlainRule}
+use Rattle.zw_grammar.specs.Plain.{PlainRule}
 use Rattle.zw_grammar.specs.declared.grammar.Symbol.{Symbol}
 use Rattle.zw_grammar.specs.declared.grammar.Symbol.TheVariants.{Take, Read, Build}
 use Rattle.zw_grammar.specs.Building.{Building, marked}
@@ -13,7 +13,7 @@ use Rattle.zw_grammar.specs.Reading.{Reading, Leads, after, step, choice, first_
 use Rattle.zw_grammar.specs.Reading.Leads.{here, on}
 use Rattle.zw_grammar.proofs.StepLemmas.{and-both, below, first_choice_passes}
 
-text_of-append : (cs : List Completion) (a s : List Symbol) → text_of cs (a ++ s) ≡ text_of cs a ++ text_of cs s
+pub text_of-append : (cs : List Completion) (a s : List Symbol) → text_of cs (a ++ s) ≡ text_of cs a ++ text_of cs s
 text_of-append cs [] s = refl
 text_of-append cs (Take terminal ∷ a) s = ap (λ (more : List ℕ). terminal ∷ more) (text_of-append cs a s)
 text_of-append cs (Build mark ∷ a) s = text_of-append cs a s
@@ -27,7 +27,7 @@ bound_of-append cs (Take terminal ∷ a) s = let more = bound_of-append cs a s i
 bound_of-append cs (Build mark ∷ a) s = let more = bound_of-append cs a s in omega arith
 bound_of-append cs (Read number ∷ a) s = let more = bound_of-append cs a s in omega arith
 
-first_of-append : (a b : List ℕ) (behind : ℕ) → first_of (a ++ b) behind ≡ first_of a (first_of b behind)
+pub first_of-append : (a b : List ℕ) (behind : ℕ) → first_of (a ++ b) behind ≡ first_of a (first_of b behind)
 first_of-append [] b behind = refl
 first_of-append (x ∷ a) b behind = refl
 
@@ -59,7 +59,7 @@ same_list (x ∷ xs) (y ∷ ys) e =
     let tails = same_list xs ys both.1 in cc
 
 -- a test that all pass is passed by one of them
-holds_of : (test : ℕ → Bool) (xs : List ℕ) (x : ℕ) → list_all test xs ≡ true → list_any (λ other. other == x) xs ≡ true → test x ≡ true
+pub holds_of : (test : ℕ → Bool) (xs : List ℕ) (x : ℕ) → list_all test xs ≡ true → list_any (λ other. other == x) xs ≡ true → test x ≡ true
 holds_of test [] x all there = absurd (cc)
 holds_of test (y ∷ ys) x all there =
     let both = and-both (test y) (list_all test ys) all in

@@ -1,5 +1,5 @@
 -- How a reading ends.
-use Rattle.std.proofs.Common.{◌≡◌, ℕ, zero, suc, ◌+◌, ◌-◌, ◌<◌, ◌≤◌, Bool, true, false, cond, ◌&&◌, not, ◌==◌, nat_le, List, [], ◌∷◌, ◌++◌, reverse, length, take, Option, Some, None, slice_get, refl, sym, ap, ◌∙◌, subst, arith, ◌⊎◌, inl, inr}
+use Rattle.std.proofs.Common.{◌≡◌, ℕ, zero, suc, ◌+◌, ◌<◌, ◌≤◌, Bool, true, false, cond, not, ◌==◌, nat_le, List, [], ◌∷◌, ◌++◌, reverse, length, take, Option, Some, None, slice_get, refl, sym, ap, ◌∙◌, subst, arith, inl, inr}
 use Rattle.std.specs.Option.{option_map}
 use Rattle.std.specs.Prelude.{option_and_then}
 use Rattle.std.proofs.lemmas.Bool.{eqb-true, eq-eqb}
@@ -16,12 +16,12 @@ use Rattle.zw_grammar.specs.declared.machine.Turn.{Turn}
 use Rattle.zw_grammar.specs.declared.machine.Turn.TheVariants.{Taken, Refused, Behind}
 use Rattle.zw_grammar.specs.Building.{Building, marked, nothing}
 use Rattle.zw_grammar.specs.Completions.{Completion, text_of, bound_of, fits, all_complete}
-use Rattle.zw_grammar.specs.Ends.{IsText, IsRead, StopsAt, Ends}
+use Rattle.zw_grammar.specs.Ends.{IsText, StopsAt, Ends}
 use Rattle.zw_grammar.specs.Nodes.{Holds}
 use Rattle.zw_grammar.specs.Reading.{Reading, Leads, after, step, choice}
-use Rattle.zw_grammar.specs.Reading.Leads.{here, on}
-use Rattle.zw_grammar.specs.Texts.{begins, Reads, GoesOn, IsWrong, IsNested}
-use Rattle.zw_grammar.specs.Turns.{Comes, Takes, Sticks, Turns, end_of, reading}
+use Rattle.zw_grammar.specs.Reading.Leads.{here}
+use Rattle.zw_grammar.specs.Texts.{begins}
+use Rattle.zw_grammar.specs.Turns.{Takes, Sticks, Turns, end_of, reading}
 use Rattle.zw_grammar.proofs.CompletionLemmas.{completed, leads_fits, step_fits, IsFrom}
 use Rattle.zw_grammar.proofs.LeadLemmas.{Agree, leads_on, one_way, no_way, leads_next, leads_same, after_same, agree_less, front_agrees}
 use Rattle.zw_grammar.proofs.PassedLemmas.{leads_keeps}
@@ -123,7 +123,7 @@ goes_on Refused (Some place) at e = go (nat_le at place) e
     go true e = absurd (cc)
     go false e = absurd (cc)
 
-front_there : (n : ℕ) (text more : List ℕ) → n ≤ length text → IsFrom (take n text ++ more) n more
+pub front_there : (n : ℕ) (text more : List ℕ) → n ≤ length text → IsFrom (take n text ++ more) n more
 front_there zero text more le = λ k. let same : 0 + k ≡ k = omega arith in ap (λ (j : ℕ). slice_get more j) same
 front_there (suc n) [] more le = absurd (omega arith)
 front_there (suc n) (x ∷ xs) more le = λ k.

@@ -1,9 +1,9 @@
 -- Laws of reading.
-use Rattle.std.proofs.Common.{◌≡◌, ℕ, zero, suc, ◌+◌, ◌-◌, ◌<◌, ◌≤◌, List, [], ◌∷◌, ◌++◌, length, take, drop, Option, Some, None, refl, sym, ap, ◌∙◌, subst, append_assoc, arith, ◌⊎◌, inl, inr}
+use Rattle.std.proofs.Common.{◌≡◌, ℕ, zero, suc, ◌<◌, ◌≤◌, List, [], ◌∷◌, ◌++◌, take, drop, Option, Some, None, refl, sym, ap, ◌∙◌, subst, append_assoc, arith, inl, inr}
 use Rattle.zw_grammar.specs.declared.grammar.Symbol.{Symbol}
 use Rattle.zw_grammar.specs.Plain.{PlainRule}
 use Rattle.zw_grammar.specs.Building.{Building}
-use Rattle.zw_grammar.specs.Reading.{Reading, Leads}
+use Rattle.zw_grammar.specs.Reading.{Reading}
 use Rattle.zw_grammar.specs.Texts.{begins, Reads, GoesOn, IsWrong, IsNested}
 use Rattle.zw_grammar.proofs.LeadLemmas.{one_way, no_way}
 use Rattle.zw_grammar.proofs.PassedLemmas.{leads_keeps}
@@ -20,7 +20,7 @@ one_final rules start text from to other b c r s =
       | inr p ↦ same (sym (no_way rules text g f refl p))
     ]
 
-take_and_drop : (n : ℕ) (text : List ℕ) → take n text ++ drop n text ≡ text
+pub take_and_drop : (n : ℕ) (text : List ℕ) → take n text ++ drop n text ≡ text
 take_and_drop zero text = refl
 take_and_drop (suc n) [] = refl
 take_and_drop (suc n) (x ∷ xs) = ap (λ (l : List ℕ). x ∷ l) (take_and_drop n xs)
@@ -47,7 +47,7 @@ longer_front (suc m) zero text le = absurd (omega arith)
 longer_front (suc m) (suc n) [] le = refl
 longer_front (suc m) (suc n) (x ∷ xs) le = ap (λ (l : List ℕ). x ∷ l) (longer_front m n xs (omega arith))
 
-goes_shorter : (rules : List PlainRule) (start : List Symbol) (text : List ℕ) (from m n : ℕ) → m ≤ n →
+pub goes_shorter : (rules : List PlainRule) (start : List Symbol) (text : List ℕ) (from m n : ℕ) → m ≤ n →
     GoesOn rules start (take n text) from → GoesOn rules start (take m text) from
 goes_shorter rules start text from m n le g =
     let more = drop m (take n text) ++ g.0 in

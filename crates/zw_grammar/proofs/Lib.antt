@@ -7,3 +7,8 @@ pub mod PassedLemmas
 pub mod CompletionLemmas
 pub mod EndLemmas
 pub mod LawLemmas
+pub mod BalanceLemmas
+pub mod OrderLemmas
+pub mod TakeLemmas
+pub mod Variants
+pub mod VariantLemmas

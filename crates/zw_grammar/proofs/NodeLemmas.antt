@@ -1,7 +1,6 @@
 -- How the list of nodes grows with the trees.
-use Rattle.std.proofs.Common.{◌≡◌, ℕ, zero, suc, ◌+◌, ◌-◌, ◌<◌, ◌≤◌, List, [], ◌∷◌, ◌++◌, length, refl, sym, ap, ◌∙◌, append_assoc, arith, length-append}
-use Rattle.std.proofs.lemmas.Grind.{common_steps}
-use Rattle.zw_tree.specs.Trees.{Forest, none, tree, beside, count, trees}
+use Rattle.std.proofs.Common.{◌≡◌, ℕ, suc, ◌+◌, ◌-◌, List, [], ◌∷◌, ◌++◌, length, refl, sym, ap, ◌∙◌, append_assoc, arith, length-append}
+use Rattle.zw_tree.specs.Trees.{Forest, none, tree, beside, count}
 use Rattle.zw_grammar.specs.declared.builder.Built.{Built}
 use Rattle.zw_grammar.specs.declared.builder.Opened.{Opened}
 use Rattle.zw_grammar.specs.Building.{Span, Begun, Building, ends}

@@ -1,5 +1,5 @@
 -- Where the first rule begins that is nested too deep.
-use Rattle.std.proofs.Common.{◌≡◌, ℕ, suc, ◌+◌, ◌-◌, ◌<◌, ◌≤◌, Bool, true, false, cond, ◌==◌, nat_lt, List, [], ◌∷◌, ◌++◌, Option, Some, None, slice_get, refl, sym, ap, ◌∙◌, subst, arith}
+use Rattle.std.proofs.Common.{◌≡◌, ℕ, suc, ◌-◌, ◌≤◌, Bool, true, false, cond, ◌==◌, nat_lt, List, [], ◌∷◌, ◌++◌, Option, Some, None, slice_get, refl, sym, ap, ◌∙◌, subst, arith}
 use Rattle.std.specs.Option.{option_map}
 use Rattle.std.specs.Prelude.{option_and_then}
 use Rattle.zw_grammar.specs.Plain.{PlainRule}
@@ -9,9 +9,8 @@ use Rattle.zw_grammar.specs.declared.grammar.Mark.TheVariants.{Open, Wrap, Close
 use Rattle.zw_grammar.specs.declared.grammar.Symbol.{Symbol}
 use Rattle.zw_grammar.specs.declared.grammar.Symbol.TheVariants.{Take, Read, Build}
 use Rattle.zw_grammar.specs.Building.{Building, Begun, marked, ends, enter, first_of}
-use Rattle.zw_grammar.specs.Reading.{Reading, Leads, after, step, choice}
+use Rattle.zw_grammar.specs.Reading.{Reading, Leads, step, choice}
 use Rattle.zw_grammar.specs.Reading.Leads.{here, on}
-use Rattle.zw_grammar.proofs.LeadLemmas.{leads_next}
 
 -- what is built behind a mark: a place that was passed stays the first, and none is passed that lies behind the next terminal
 pub record Keeps (next : ℕ) (old new : Option ℕ) : Type 0 where

@@ -1,7 +1,6 @@
 -- A reading comes to the next terminal, or to its end.
-use Rattle.std.proofs.Common.{rules, ◌≡◌, ℕ, zero, suc, ◌+◌, ◌<◌, ◌≤◌, Bool, true, false, cond, ◌&&◌, ◌||◌, not, IsTrue, List, [], ◌∷◌, ◌++◌, reverse, Option, Some, None, slice_get, refl, sym, ap, ◌∙◌, subst, arith, nat_lt, eq-eqb}
+use Rattle.std.proofs.Common.{rules, ◌≡◌, ℕ, zero, suc, ◌+◌, ◌<◌, ◌≤◌, Bool, true, false, cond, ◌&&◌, ◌||◌, not, IsTrue, List, [], ◌∷◌, ◌++◌, Option, Some, None, slice_get, refl, ap, ◌∙◌, subst, arith, nat_lt}
 use Rattle.std.specs.List.{list_all}
-use Rattle.std.specs.Prelude.{option_and_then}
 use Rattle.std.proofs.lemmas.Grind.{common_steps}
 use Rattle.zw_grammar.specs.Plain.{PlainAlternative, PlainRule}
 use Rattle.zw_grammar.specs.declared.grammar.Symbol.{Symbol}
@@ -17,6 +16,10 @@ and-both false b e = absurd (cc)
 is_true : (b : Bool) → IsTrue b → b ≡ true
 is_true true t = refl
 is_true false t = absurd (search rules)
+
+pub truth : (b : Bool) → b ≡ true → IsTrue b
+truth true e = search rules
+truth false e = absurd (cc)
 
 -- what is chosen is an alternative of the rule, and passes a test that all pass
 pub record IsChosen (test : PlainAlternative → Bool) (symbols : List Symbol) : Type 0 where

@@ -1,5 +1,5 @@
 -- What marks build: trees whose nodes name their first and their last terminal, and how deep rules nest.
-use Rattle.std.specs.Prelude.{◌≡◌, ℕ, zero, suc, ◌-◌, nat_lt, ◌==◌, Bool, false, List, [], ◌∷◌, Option, Some, None, slice_get, if◌then◌else◌}
+use Rattle.std.specs.Prelude.{ℕ, zero, suc, ◌-◌, nat_lt, ◌==◌, Bool, false, List, [], ◌∷◌, Option, Some, None, slice_get, if◌then◌else◌}
 use Rattle.zw_tree.specs.declared.kind.NodeKind.{NodeKind}
 use Rattle.zw_tree.specs.Trees.{Forest, none, tree, beside, trees}
 use Rattle.zw_grammar.specs.declared.grammar.Mark.{Mark}
@@ -97,3 +97,7 @@ marked text next Leave b = record { ended = b.ended; begun = b.begun; depth = b.
 abbrev pub all_trees : List Begun → Forest Span → Forest Span
 all_trees [] ended = ended
 all_trees (node ∷ outer) ended = beside (all_trees outer node.before) ended
+
+-- all trees stand below one node, which has the terminals from the first up to this one
+abbrev pub enclosed : NodeKind → ℕ → Building → Building
+enclosed kind last b = record { ended = tree (record { kind = kind; first = 0; last = last }) b.ended none; begun = []; depth = b.depth; passed = b.passed }

@@ -1,7 +1,7 @@
 -- Each front of a text that was read can be completed: a test of a grammar, by a text of each rule.
-use Rattle.std.specs.Prelude.{◌≡◌, ℕ, suc, ◌+◌, ◌-◌, Bool, true, false, ◌&&◌, not, ◌==◌, nat_lt, IsTrue, List, [], ◌∷◌, ◌++◌, length, Option, Some, None, slice_get}
+use Rattle.std.specs.Prelude.{◌≡◌, ℕ, suc, ◌+◌, Bool, true, false, ◌&&◌, not, ◌==◌, nat_lt, List, [], ◌∷◌, ◌++◌, Option, Some, None, slice_get}
 use Rattle.std.specs.List.{list_all, list_any}
-use Rattle.zw_grammar.specs.Plain.{PlainAlternative, PlainRule}
+use Rattle.zw_grammar.specs.Plain.{PlainRule}
 use Rattle.zw_grammar.specs.declared.grammar.Symbol.{Symbol}
 use Rattle.zw_grammar.specs.declared.grammar.Symbol.TheVariants.{Take, Read, Build}
 use Rattle.zw_grammar.specs.Reading.{first_choice}

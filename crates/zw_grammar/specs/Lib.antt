@@ -7,3 +7,5 @@ pub mod Nodes
 pub mod Turns
 pub mod Completions
 pub mod Ends
+pub mod Orders
+pub mod Balances

@@ -1,5 +1,5 @@
 -- What is said of whole texts, as lists of terminals.
-use Rattle.std.specs.Prelude.{◌≡◌, ℕ, suc, ◌<◌, ◌⊎◌, List, [], ◌++◌, length, take, Option, Some, None}
+use Rattle.std.specs.Prelude.{◌≡◌, ℕ, suc, ◌<◌, ◌⊎◌, List, [], ◌++◌, length, take, Some}
 use Rattle.zw_grammar.specs.Plain.{PlainRule}
 use Rattle.zw_grammar.specs.declared.grammar.Symbol.{Symbol}
 use Rattle.zw_grammar.specs.Building.{Building, nothing}

@@ -80,10 +80,10 @@ fn last_trees(list: &[Built], least: usize, many: u8, next: u32) -> (u32, usize)
 }
 
 impl Builder {
-    ghost use Rattle.std.specs.Prelude.{◌≡◌, ℕ, ◌≤◌, ◌+◌, ◌-◌, ◌<◌, ◌^◌, ◌++◌, List, length, OnOk};
+    ghost use Rattle.std.specs.Prelude.{◌≡◌, ℕ, ◌≤◌, ◌+◌, ◌-◌, ◌<◌, ◌^◌, ◌++◌, List, [], length, OnOk};
     ghost use Rattle.zw_tree.specs.Trees.{none, trees};
-    ghost use Rattle.zw_grammar.specs.Building.{Building, nothing, begin, ends, one, enter, wrapped, marked};
-    ghost use Rattle.zw_grammar.specs.Nodes.{Holds};
+    ghost use Rattle.zw_grammar.specs.Building.{Building, nothing, begin, ends, one, enter, wrapped, marked, enclosed};
+    ghost use Rattle.zw_grammar.specs.Nodes.{Holds, all_nodes};
 
     /// No nodes.
     pub fn new(alloc: Global) -> Builder
@@ -98,8 +98,24 @@ impl Builder {
     }
 
     /// The nodes that have ended, in that order.
-    pub fn nodes(&self) -> &[Built] {
+    pub fn nodes(&self) -> &[Built]
+        ensures { (b : Building) → Holds self.now b → result.now ≡ all_nodes b.begun b.ended }
+    {
         self.nodes.as_slice()
+    }
+
+    /// Puts all trees below one node, which has the terminals from the first of the text up to this one. No other node is open.
+    pub fn enclose(&mut self, kind: NodeKind, last: u32) -> Result<(), Oom>
+        ensures { OnOk result ((b : Building) → Holds self.old b → b.begun ≡ [] → Holds self.new (enclosed kind last b)) }
+    {
+        let below = self.nodes.len();
+        self.nodes.push(Built {
+            kind,
+            first: 0,
+            last,
+            size: below.saturating_add(1),
+        })?;
+        Ok(())
     }
 
     /// Where the first rule begins that is nested too deep.

@@ -1,7 +1,9 @@
 // Laws of reading by a grammar.
-ghost use Rattle.std.specs.Prelude.{◌≡◌, ℕ, List, None};
+ghost use Rattle.std.specs.Prelude.{◌≡◌, ℕ, List, [], None};
 ghost use Rattle.zw_grammar.specs.declared.grammar.Symbol.{Symbol};
+ghost use Rattle.zw_grammar.specs.Balances.{Balances};
 ghost use Rattle.zw_grammar.specs.Building.{Building};
+ghost use Rattle.zw_grammar.specs.Orders.{AreInOrder};
 ghost use Rattle.zw_grammar.specs.Plain.{PlainRule};
 ghost use Rattle.zw_grammar.specs.Texts.{Reads, IsWrong, IsNested};
 
@@ -29,4 +31,10 @@ pub fn one_wrong()
 pub fn one_nested()
     ensures { (rules : List PlainRule) (start : List Symbol) (text : List ℕ) (from place other : ℕ) →
         IsNested rules start text from place → IsNested rules start text from other → place ≡ other }
+{}
+
+/// By rules whose marks balance, a text that is read leaves no node open, and its nodes stand in the order of their terminals.
+pub fn nodes_in_order()
+    ensures { (rules : List PlainRule) (start : List Symbol) (text : List ℕ) (from to : ℕ) (b : Building) →
+        Balances rules start → Reads rules start text from to b → (b.begun ≡ []) × AreInOrder from b.ended to }
 {}

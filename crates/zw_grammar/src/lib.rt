@@ -8,5 +8,5 @@ mod machine;
 
 pub use builder::{Builder, Built, MAX_DEPTH};
 pub use grammar::{Alternative, Mark, Rule, Symbol};
-pub use laws::{one_nested, one_reading, one_wrong, read_or_stopped};
+pub use laws::{nodes_in_order, one_nested, one_reading, one_wrong, read_or_stopped};
 pub use machine::{End, read};

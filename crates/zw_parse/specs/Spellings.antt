@@ -1,9 +1,9 @@
 -- What the tokens of a node stand for: the bytes of a name, a builtin or a text, and the value of a number or a character.
-use Rattle.std.specs.Prelude.{◌≡◌, ℕ, ℤ, pos, ◌-◌, ◌^◌, nat_lt, List, [], ◌∷◌, ◌++◌, take, drop, Option, Some, None, if◌then◌else◌}
+use Rattle.std.specs.Prelude.{◌≡◌, ℕ, ℤ, pos, ◌^◌, nat_lt, List, [], ◌∷◌, ◌++◌, drop, Option, Some, None, if◌then◌else◌}
 use Rattle.std.specs.List.{flat_map}
 use Rattle.zw_token.specs.Numbers.{number_of}
 use Rattle.zw_token.specs.Values.{text_of, character_of}
-use Rattle.zw_token.specs.Tokens.{IsOfKind}
+use Rattle.zw_token.specs.Tokens.{IsOfKind, bytes_of}
 use Rattle.zw_token.specs.declared.token.Token.{Token}
 use Rattle.zw_token.specs.declared.token.TokenKind.{TokenKind}
 use Rattle.zw_token.specs.declared.token.TokenKind.TheVariants as token
@@ -23,9 +23,6 @@ spelling_of kind.Text = Text
 spelling_of kind.Number = Number
 spelling_of kind.Character = Character
 spelling_of _ = Nothing
-
-abbrev pub bytes_of : List ℕ → Token → List ℕ
-bytes_of text t = take (t.end - t.start) (drop t.start text)
 
 -- what lines stand for behind others, each behind a line feed
 abbrev pub lines_behind : List ℕ → List Token → List ℕ

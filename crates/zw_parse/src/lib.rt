@@ -1,9 +1,13 @@
-//! The tree of a text, from the nodes that reading it lists.
+//! The tree of a text: its tokens are read by the grammar, and the nodes that reading lists become a tree.
 #![tactic(auto)]
 
+mod laws;
 mod order;
 mod places;
 mod spelling;
+mod syntax;
 mod tree;
 
+pub use laws::{one_stop_of_syntax, one_tree, tokens_of_trees, tree_or_stop};
+pub use syntax::{NESTING, SYNTAX, parse};
 pub use tree::tree_of;

@@ -31,6 +31,20 @@ fn moved(from: Place, passed: &[u8]) -> Place
     }
 }
 
+/// The place of a byte of a text, by its number.
+pub(crate) fn place_of(file: u32, text: &[u8], at: usize) -> Place
+    requires short { length text.now ≤ 4194304 }
+    requires within { at ≤ length text.now }
+    ensures { result ≡ place_at file text.now at }
+{
+    let first = Place {
+        file,
+        line: 1,
+        column: 1,
+    };
+    moved(first, &text[..at])
+}
+
 /// The place of each token of a text.
 pub(crate) fn places(
     alloc: Global,

@@ -1,9 +1,9 @@
 // What the tokens of a node stand for: a name, a text or a number.
 ghost use Rattle.std.specs.Prelude.{◌≡◌, ◌≤◌, ◌<◌, ◌^◌, IfOk, OnOk, ◌++◌, List, All, length, take, drop, pos};
-ghost use Rattle.zw_token.specs.Tokens.{LiesIn, IsOfKind};
+ghost use Rattle.zw_token.specs.Tokens.{LiesIn, IsOfKind, bytes_of};
 ghost use Rattle.zw_token.specs.declared.token.Token.{Token};
 ghost use Rattle.zw_token.specs.declared.token.TokenKind.{TokenKind};
-ghost use Rattle.zw_parse.specs.Spellings.{spelling_of, bytes_of, lines_behind, lines_of, name_spelled, number_spelled, character_spelled, IsOneCharacter};
+ghost use Rattle.zw_parse.specs.Spellings.{spelling_of, lines_behind, lines_of, name_spelled, number_spelled, character_spelled, IsOneCharacter};
 
 use std::alloc::Global;
 use zw_base::Oom;

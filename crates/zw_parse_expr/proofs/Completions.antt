@@ -6,19 +6,19 @@ use Rattle.zw_grammar.specs.Completions.{Completion}
 abbrev pub completions : List Completion
 completions =
     record { text = (94 ∷ []); steps = 2; behind = (78 ∷ 85 ∷ 89 ∷ 91 ∷ 93 ∷ 103 ∷ []) } ∷
-    record { text = (96 ∷ []); steps = 3; behind = (34 ∷ 76 ∷ 78 ∷ 85 ∷ 88 ∷ 89 ∷ 91 ∷ 92 ∷ 93 ∷ 103 ∷ 104 ∷ []) } ∷
+    record { text = (96 ∷ []); steps = 3; behind = (34 ∷ 76 ∷ 78 ∷ 85 ∷ 86 ∷ 88 ∷ 89 ∷ 91 ∷ 92 ∷ 93 ∷ 103 ∷ []) } ∷
     record { text = (95 ∷ []); steps = 3; behind = (34 ∷ []) } ∷
-    record { text = (104 ∷ []); steps = 2; behind = (1 ∷ 6 ∷ 88 ∷ 92 ∷ 94 ∷ 96 ∷ []) } ∷
+    record { text = (86 ∷ []); steps = 2; behind = (1 ∷ 6 ∷ 88 ∷ 99 ∷ []) } ∷
     record { text = []; steps = 1; behind = (93 ∷ []) } ∷
     record { text = []; steps = 1; behind = (93 ∷ []) } ∷
-    record { text = []; steps = 1; behind = (94 ∷ []) } ∷
+    record { text = []; steps = 1; behind = (99 ∷ []) } ∷
     record { text = []; steps = 1; behind = (6 ∷ 92 ∷ []) } ∷
     record { text = (95 ∷ 34 ∷ []); steps = 7; behind = (6 ∷ 92 ∷ []) } ∷
     record { text = []; steps = 1; behind = (6 ∷ 92 ∷ []) } ∷
-    record { text = (94 ∷ []); steps = 9; behind = (76 ∷ 78 ∷ 85 ∷ 89 ∷ 91 ∷ 92 ∷ 93 ∷ 103 ∷ []) } ∷
-    record { text = (94 ∷ []); steps = 6; behind = (76 ∷ 78 ∷ 85 ∷ 89 ∷ 91 ∷ 92 ∷ 93 ∷ 103 ∷ []) } ∷
-    record { text = (91 ∷ 94 ∷ []); steps = 11; behind = (76 ∷ 78 ∷ 85 ∷ 89 ∷ 91 ∷ 92 ∷ 93 ∷ 103 ∷ []) } ∷
-    record { text = (91 ∷ 94 ∷ []); steps = 11; behind = (76 ∷ 78 ∷ 85 ∷ 89 ∷ 91 ∷ 92 ∷ 93 ∷ 103 ∷ []) } ∷
+    record { text = (99 ∷ []); steps = 9; behind = (76 ∷ 78 ∷ 85 ∷ 89 ∷ 91 ∷ 92 ∷ 93 ∷ 103 ∷ []) } ∷
+    record { text = (99 ∷ []); steps = 6; behind = (76 ∷ 78 ∷ 85 ∷ 89 ∷ 91 ∷ 92 ∷ 93 ∷ 103 ∷ []) } ∷
+    record { text = (91 ∷ 99 ∷ []); steps = 11; behind = (76 ∷ 78 ∷ 85 ∷ 89 ∷ 91 ∷ 92 ∷ 93 ∷ 103 ∷ []) } ∷
+    record { text = (91 ∷ 99 ∷ []); steps = 11; behind = (76 ∷ 78 ∷ 85 ∷ 89 ∷ 91 ∷ 92 ∷ 93 ∷ 103 ∷ []) } ∷
     record { text = []; steps = 1; behind = (91 ∷ []) } ∷
     record { text = []; steps = 1; behind = (76 ∷ 78 ∷ 85 ∷ 89 ∷ 91 ∷ 92 ∷ 93 ∷ 103 ∷ []) } ∷
     record { text = []; steps = 1; behind = (76 ∷ 78 ∷ 85 ∷ 89 ∷ 91 ∷ 92 ∷ 93 ∷ 103 ∷ []) } ∷
@@ -26,7 +26,7 @@ completions =
     record { text = []; steps = 1; behind = (91 ∷ []) } ∷
     record { text = []; steps = 1; behind = (89 ∷ []) } ∷
     record { text = []; steps = 1; behind = (89 ∷ []) } ∷
-    record { text = (94 ∷ []); steps = 3; behind = (76 ∷ 78 ∷ 85 ∷ 89 ∷ 91 ∷ 92 ∷ 93 ∷ 103 ∷ []) } ∷
+    record { text = (99 ∷ []); steps = 3; behind = (76 ∷ 78 ∷ 85 ∷ 89 ∷ 91 ∷ 92 ∷ 93 ∷ 103 ∷ []) } ∷
     record { text = []; steps = 1; behind = (76 ∷ 78 ∷ 85 ∷ 89 ∷ 91 ∷ 92 ∷ 93 ∷ 103 ∷ []) } ∷
     record { text = (101 ∷ []); steps = 5; behind = (89 ∷ []) } ∷
     record { text = []; steps = 1; behind = (89 ∷ []) } ∷
@@ -67,7 +67,7 @@ completions =
     record { text = []; steps = 1; behind = (91 ∷ []) } ∷
     record { text = (6 ∷ []); steps = 6; behind = (91 ∷ []) } ∷
     record { text = (6 ∷ []); steps = 5; behind = (78 ∷ 85 ∷ 89 ∷ 91 ∷ 93 ∷ 103 ∷ []) } ∷
-    record { text = (91 ∷ 94 ∷ []); steps = 13; behind = (78 ∷ 85 ∷ 89 ∷ 91 ∷ 93 ∷ 103 ∷ []) } ∷
+    record { text = (91 ∷ 99 ∷ []); steps = 13; behind = (78 ∷ 85 ∷ 89 ∷ 91 ∷ 93 ∷ 103 ∷ []) } ∷
     record { text = []; steps = 5; behind = (78 ∷ 85 ∷ 89 ∷ 91 ∷ 93 ∷ 103 ∷ []) } ∷
     record { text = []; steps = 5; behind = (91 ∷ []) } ∷
     record { text = (6 ∷ []); steps = 5; behind = (91 ∷ []) } ∷
@@ -88,23 +88,23 @@ completions =
     record { text = (92 ∷ 93 ∷ []); steps = 6; behind = (76 ∷ 78 ∷ 85 ∷ 89 ∷ 91 ∷ 92 ∷ 93 ∷ 103 ∷ []) } ∷
     record { text = (92 ∷ 93 ∷ []); steps = 6; behind = (78 ∷ 85 ∷ 89 ∷ 91 ∷ 93 ∷ 103 ∷ []) } ∷
     record { text = []; steps = 1; behind = (93 ∷ []) } ∷
-    record { text = (92 ∷ 93 ∷ []); steps = 9; behind = (93 ∷ []) } ∷
+    record { text = (92 ∷ 93 ∷ []); steps = 10; behind = (93 ∷ []) } ∷
     record { text = (85 ∷ []); steps = 17; behind = (93 ∷ []) } ∷
     record { text = []; steps = 15; behind = (85 ∷ []) } ∷
-    record { text = (92 ∷ 93 ∷ []); steps = 7; behind = (93 ∷ []) } ∷
-    record { text = (31 ∷ 88 ∷ 6 ∷ 89 ∷ 92 ∷ 93 ∷ []); steps = 34; behind = (93 ∷ []) } ∷
-    record { text = (31 ∷ 88 ∷ 6 ∷ 89 ∷ 92 ∷ 93 ∷ []); steps = 34; behind = (93 ∷ []) } ∷
-    record { text = (92 ∷ 93 ∷ []); steps = 10; behind = (93 ∷ []) } ∷
-    record { text = (92 ∷ 93 ∷ []); steps = 7; behind = (93 ∷ []) } ∷
+    record { text = (92 ∷ 93 ∷ []); steps = 8; behind = (93 ∷ []) } ∷
+    record { text = (31 ∷ 88 ∷ 6 ∷ 89 ∷ 92 ∷ 93 ∷ []); steps = 35; behind = (93 ∷ []) } ∷
+    record { text = (31 ∷ 88 ∷ 6 ∷ 89 ∷ 92 ∷ 93 ∷ []); steps = 35; behind = (93 ∷ []) } ∷
+    record { text = (92 ∷ 93 ∷ []); steps = 11; behind = (93 ∷ []) } ∷
+    record { text = (92 ∷ 93 ∷ []); steps = 8; behind = (93 ∷ []) } ∷
     record { text = (85 ∷ []); steps = 17; behind = (93 ∷ []) } ∷
-    record { text = (92 ∷ 93 ∷ []); steps = 7; behind = (93 ∷ []) } ∷
+    record { text = (92 ∷ 93 ∷ []); steps = 8; behind = (93 ∷ []) } ∷
     record { text = (31 ∷ 88 ∷ 6 ∷ 89 ∷ 6 ∷ []); steps = 53; behind = (85 ∷ []) } ∷
-    record { text = (92 ∷ 93 ∷ []); steps = 8; behind = (93 ∷ []) } ∷
+    record { text = (92 ∷ 93 ∷ []); steps = 9; behind = (93 ∷ []) } ∷
     record { text = (85 ∷ []); steps = 18; behind = (93 ∷ []) } ∷
-    record { text = (92 ∷ 93 ∷ []); steps = 8; behind = (93 ∷ []) } ∷
+    record { text = (92 ∷ 93 ∷ []); steps = 9; behind = (93 ∷ []) } ∷
     record { text = (85 ∷ []); steps = 2; behind = (93 ∷ []) } ∷
-    record { text = []; steps = 1; behind = (93 ∷ []) } ∷
-    record { text = (8 ∷ 92 ∷ 93 ∷ []); steps = 14; behind = (93 ∷ []) } ∷
+    record { text = []; steps = 2; behind = (93 ∷ []) } ∷
+    record { text = (8 ∷ 92 ∷ 93 ∷ []); steps = 15; behind = (93 ∷ []) } ∷
     record { text = (6 ∷ []); steps = 18; behind = (85 ∷ 89 ∷ 93 ∷ []) } ∷
     record { text = []; steps = 1; behind = (85 ∷ 89 ∷ 93 ∷ []) } ∷
     record { text = (16 ∷ 88 ∷ 6 ∷ 89 ∷ []); steps = 21; behind = (6 ∷ 92 ∷ []) } ∷
@@ -139,16 +139,19 @@ completions =
     record { text = (96 ∷ 76 ∷ 6 ∷ []); steps = 22; behind = (85 ∷ []) } ∷
     record { text = []; steps = 1; behind = (76 ∷ 93 ∷ []) } ∷
     record { text = []; steps = 1; behind = (92 ∷ []) } ∷
-    record { text = (12 ∷ 14 ∷ 96 ∷ 88 ∷ 89 ∷ 94 ∷ 92 ∷ 93 ∷ []); steps = 28; behind = (93 ∷ 103 ∷ []) } ∷
-    record { text = (18 ∷ 14 ∷ 96 ∷ 88 ∷ 89 ∷ 94 ∷ 92 ∷ 93 ∷ []); steps = 28; behind = (93 ∷ 103 ∷ []) } ∷
-    record { text = (13 ∷ 14 ∷ 96 ∷ 88 ∷ 89 ∷ 94 ∷ []); steps = 21; behind = (85 ∷ []) } ∷
-    record { text = (14 ∷ 96 ∷ 88 ∷ 89 ∷ 94 ∷ 92 ∷ 93 ∷ []); steps = 25; behind = (93 ∷ 103 ∷ []) } ∷
-    record { text = (14 ∷ 96 ∷ 88 ∷ 89 ∷ 94 ∷ []); steps = 18; behind = (85 ∷ 92 ∷ []) } ∷
-    record { text = (94 ∷ []); steps = 10; behind = (85 ∷ 92 ∷ []) } ∷
+    record { text = (12 ∷ 14 ∷ 96 ∷ 88 ∷ 89 ∷ 99 ∷ 92 ∷ 93 ∷ []); steps = 28; behind = (93 ∷ 103 ∷ []) } ∷
+    record { text = (18 ∷ 14 ∷ 96 ∷ 88 ∷ 89 ∷ 99 ∷ 92 ∷ 93 ∷ []); steps = 28; behind = (93 ∷ 103 ∷ []) } ∷
+    record { text = (13 ∷ 14 ∷ 96 ∷ 88 ∷ 89 ∷ 99 ∷ []); steps = 21; behind = (85 ∷ []) } ∷
+    record { text = (14 ∷ 96 ∷ 88 ∷ 89 ∷ 99 ∷ 92 ∷ 93 ∷ []); steps = 25; behind = (93 ∷ 103 ∷ []) } ∷
+    record { text = (14 ∷ 96 ∷ 88 ∷ 89 ∷ 99 ∷ []); steps = 18; behind = (85 ∷ 92 ∷ []) } ∷
+    record { text = (99 ∷ []); steps = 10; behind = (85 ∷ 92 ∷ []) } ∷
     record { text = []; steps = 1; behind = (89 ∷ []) } ∷
     record { text = []; steps = 1; behind = (89 ∷ []) } ∷
     record { text = (1 ∷ []); steps = 7; behind = (89 ∷ []) } ∷
     record { text = (1 ∷ []); steps = 4; behind = (89 ∷ []) } ∷
     record { text = []; steps = 6; behind = (89 ∷ []) } ∷
     record { text = (1 ∷ []); steps = 3; behind = (89 ∷ []) } ∷
+    record { text = []; steps = 1; behind = (93 ∷ []) } ∷
+    record { text = (104 ∷ []); steps = 2; behind = (92 ∷ []) } ∷
+    record { text = (105 ∷ []); steps = 2; behind = (96 ∷ []) } ∷
     []

@@ -1,3 +1,8 @@
 mod Completions
 pub mod Checks
-pub mod TerminalLemmas
+pub mod Courses
+pub mod Balance
+pub mod TokenLemmas
+pub mod LexemeLemmas
+pub mod PartLemmas
+pub mod FileLemmas

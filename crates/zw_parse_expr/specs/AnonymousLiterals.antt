@@ -1,5 +1,5 @@
 -- The rules of anonymous literals.
-use Rattle.std.specs.Prelude.{List, [], ◌∷◌, true, false}
+use Rattle.std.specs.Prelude.{List, [], ◌∷◌, false}
 use Rattle.zw_tree.specs.declared.kind.NodeKind.TheVariants.{AnonymousArray, AnonymousStruct, EnumLiteral, FieldInit, Name, QuotedName}
 use Rattle.zw_grammar.specs.declared.grammar.Mark.TheVariants.{Close, Enter, Leave, Open, Word}
 use Rattle.zw_grammar.specs.declared.grammar.Symbol.TheVariants.{Build, Read, Take}

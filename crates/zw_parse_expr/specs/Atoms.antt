@@ -1,5 +1,5 @@
 -- The rules of atoms.
-use Rattle.std.specs.Prelude.{List, [], ◌∷◌, true, false}
+use Rattle.std.specs.Prelude.{List, [], ◌∷◌, false}
 use Rattle.zw_tree.specs.declared.kind.NodeKind.TheVariants.{Builtin, Character, Enum, Identifier, Number, Parentheses, QuotedIdentifier, Struct, Text, Union, Unreachable}
 use Rattle.zw_grammar.specs.declared.grammar.Mark.TheVariants.{Close, Leaf, Open}
 use Rattle.zw_grammar.specs.declared.grammar.Symbol.TheVariants.{Build, Read, Take}

@@ -1,5 +1,5 @@
 -- The rules of bits.
-use Rattle.std.specs.Prelude.{List, [], ◌∷◌, true, false}
+use Rattle.std.specs.Prelude.{List, [], ◌∷◌, true}
 use Rattle.zw_tree.specs.declared.kind.NodeKind.TheVariants.{Add, AddSaturate, AddWrap, BitAnd, BitOr, BitXor, Catch, Concatenate, OrElse, ShiftLeft, ShiftLeftSaturate, ShiftRight, Subtract, SubtractSaturate, SubtractWrap}
 use Rattle.zw_grammar.specs.declared.grammar.Mark.TheVariants.{Close, Wrap}
 use Rattle.zw_grammar.specs.declared.grammar.Symbol.TheVariants.{Build, Read, Take}

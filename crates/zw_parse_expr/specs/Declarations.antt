@@ -1,5 +1,5 @@
 -- The rules of declarations.
-use Rattle.std.specs.Prelude.{List, [], ◌∷◌, true, false}
+use Rattle.std.specs.Prelude.{List, [], ◌∷◌, false}
 use Rattle.zw_tree.specs.declared.kind.NodeKind.TheVariants.{ComptimeBlock, Const, Function, Test, Var}
 use Rattle.zw_grammar.specs.declared.grammar.Mark.TheVariants.{Close, Enter, Leave, Open}
 use Rattle.zw_grammar.specs.declared.grammar.Symbol.TheVariants.{Build, Read, Take}

@@ -4,7 +4,7 @@ use Rattle.zw_tree.specs.declared.kind.NodeKind.TheVariants.{Else, For, InlineWo
 use Rattle.zw_grammar.specs.declared.grammar.Mark.TheVariants.{Close, Leaf, Open, Wrap}
 use Rattle.zw_grammar.specs.declared.grammar.Symbol.TheVariants.{Build, Read, Take}
 use Rattle.zw_grammar.specs.Plain.{PlainRule}
-use Rattle.zw_parse_expr.specs.declared.rule.TheConstants.{ANY_COLON, A_NAME, ELSE_EXPR, EXPR, FOR_HEAD, LABELLED_BLOCK, LABELLED_INLINE_LOOP, LABELLED_LOOP, PLAIN_CAPTURE, WHILE_HEAD}
+use Rattle.zw_parse_expr.specs.declared.rule.TheConstants.{A_NAME, BREAK_COLON, ELSE_EXPR, EXPR, FOR_HEAD, LABELLED_BLOCK, LABELLED_INLINE_LOOP, LABELLED_LOOP, PLAIN_CAPTURE, WHILE_HEAD}
 use Rattle.zw_parse_expr.specs.declared.terminal.TheConstants.{COLON_NAME, ELSE, FOR, INLINE, L_BRACE, WHILE}
 use Rattle.zw_parse_expr.specs.Classes.{colons, operand_first}
 
@@ -68,7 +68,7 @@ else_expr = record {
 abbrev pub break_label : PlainRule
 break_label = record {
   alternatives =
-      record { first = colons; symbols = (Build (Open Label 0) ∷ Read ANY_COLON ∷ Read A_NAME ∷ Build Close ∷ []) } ∷
+      record { first = colons; symbols = (Build (Open Label 0) ∷ Read BREAK_COLON ∷ Read A_NAME ∷ Build Close ∷ []) } ∷
       record { first = []; symbols = [] } ∷
       [];
   steps = 4;

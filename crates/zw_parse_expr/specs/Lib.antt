@@ -26,5 +26,9 @@ pub mod Members
 pub mod Declarations
 pub mod PublicDeclarations
 pub mod Functions
+pub mod Followers
 pub mod Rules
 pub mod Terminals
+pub mod Lexemes
+pub mod Files
+pub mod Parts

@@ -1,5 +1,5 @@
 -- The rules of members.
-use Rattle.std.specs.Prelude.{List, [], ◌∷◌, true, false}
+use Rattle.std.specs.Prelude.{List, [], ◌∷◌, true}
 use Rattle.zw_tree.specs.declared.kind.NodeKind.TheVariants.{Field, FieldValue}
 use Rattle.zw_grammar.specs.declared.grammar.Mark.TheVariants.{Close, Open}
 use Rattle.zw_grammar.specs.declared.grammar.Symbol.TheVariants.{Build, Read, Take}

@@ -4,7 +4,7 @@ use Rattle.zw_tree.specs.declared.kind.NodeKind.TheVariants.{ArrayType, Blank, B
 use Rattle.zw_grammar.specs.declared.grammar.Mark.TheVariants.{Close, Enter, Leaf, Leave, Open, Word}
 use Rattle.zw_grammar.specs.declared.grammar.Symbol.TheVariants.{Build, Read, Take}
 use Rattle.zw_grammar.specs.Plain.{PlainRule}
-use Rattle.zw_parse_expr.specs.declared.rule.TheConstants.{ANY_COLON, ANY_NAME, BLOCK, BRACED, BRACKET, BREAK_LABEL, ELSE_EXPR, ERROR_UNION, EXPR, FOR_HEAD, FRONT_BRACKET, IF_HEAD, INIT, INLINE_LOOP, LABELLED, LABELLED_C, OPERAND, PRIMARY_NAME, SENTINEL, SUFFIXES, TYPE_BODY, WHILE_HEAD}
+use Rattle.zw_parse_expr.specs.declared.rule.TheConstants.{ANY_NAME, BLOCK, BRACED, BRACKET, BREAK_LABEL, ELSE_EXPR, ERROR_UNION, EXPR, FOR_HEAD, FRONT_BRACKET, IF_HEAD, INIT, INLINE_LOOP, LABELLED, LABELLED_C, LABEL_COLON, OPERAND, PRIMARY_NAME, SENTINEL, SUFFIXES, TYPE_BODY, WHILE_HEAD}
 use Rattle.zw_parse_expr.specs.declared.terminal.TheConstants.{BLANK, BREAK, COLON_TARGET, COMPTIME, CONTINUE, FOR, IF, INLINE, L_BRACE, L_BRACKET, NAME, QUOTED, RETURN, R_BRACKET, WHILE}
 use Rattle.zw_parse_expr.specs.Classes.{colons}
 
@@ -44,7 +44,7 @@ front_bracket = record {
 abbrev pub primary_name : PlainRule
 primary_name = record {
   alternatives =
-      record { first = colons; symbols = (Build (Open Label 1) ∷ Build (Word NAME Name QuotedName 1) ∷ Read ANY_COLON ∷ Build Close ∷ Read LABELLED ∷ []) } ∷
+      record { first = colons; symbols = (Build (Open Label 1) ∷ Build (Word NAME Name QuotedName 1) ∷ Read LABEL_COLON ∷ Build Close ∷ Read LABELLED ∷ []) } ∷
       record { first = []; symbols = (Build (Word NAME Identifier QuotedIdentifier 1) ∷ Read SUFFIXES ∷ Read ERROR_UNION ∷ Read INIT ∷ []) } ∷
       [];
   steps = 11;

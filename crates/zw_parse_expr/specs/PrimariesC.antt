@@ -1,5 +1,5 @@
 -- The rules of primaries c.
-use Rattle.std.specs.Prelude.{List, [], ◌∷◌, true, false}
+use Rattle.std.specs.Prelude.{List, [], ◌∷◌, false}
 use Rattle.zw_tree.specs.declared.kind.NodeKind.TheVariants.{Break, Comptime, Continue, For, If, Return, While}
 use Rattle.zw_grammar.specs.declared.grammar.Mark.TheVariants.{Close, Open}
 use Rattle.zw_grammar.specs.declared.grammar.Symbol.TheVariants.{Build, Read, Take}

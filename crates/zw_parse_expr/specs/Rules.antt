@@ -28,6 +28,7 @@ use Rattle.zw_parse_expr.specs.Members.{members_rules}
 use Rattle.zw_parse_expr.specs.Declarations.{declarations_rules}
 use Rattle.zw_parse_expr.specs.PublicDeclarations.{public_declarations_rules}
 use Rattle.zw_parse_expr.specs.Functions.{functions_rules}
+use Rattle.zw_parse_expr.specs.Followers.{followers_rules}
 
 -- these rules behind others
 abbrev pub with_types : List PlainRule → List PlainRule
@@ -39,7 +40,7 @@ with_expressions list = (((((((((list ++ bits_rules) ++ bits_c_rules) ++ product
 
 -- these rules behind others
 abbrev pub with_statements : List PlainRule → List PlainRule
-with_statements list = (((((((((list ++ named_statements_rules) ++ bodies_rules) ++ assignments_rules) ++ heads_rules) ++ switches_rules) ++ members_rules) ++ declarations_rules) ++ public_declarations_rules) ++ functions_rules)
+with_statements list = ((((((((((list ++ named_statements_rules) ++ bodies_rules) ++ assignments_rules) ++ heads_rules) ++ switches_rules) ++ members_rules) ++ declarations_rules) ++ public_declarations_rules) ++ functions_rules) ++ followers_rules)
 
 abbrev pub rules : List PlainRule
 rules = with_statements (with_expressions (with_types []))

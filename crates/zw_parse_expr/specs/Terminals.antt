@@ -1,10 +1,8 @@
--- The terminals of tokens.
-use Rattle.std.specs.Prelude.{◌≡◌, ℕ, ◌+◌, Bool, ◌&&◌, ◌||◌, ◌==◌, nat_lt, nat_eq, All, List, [], ◌∷◌, length, slice_range, if◌then◌else◌}
+-- The terminal of a token by its kind and its bytes.
+use Rattle.std.specs.Prelude.{ℕ, ◌+◌, ◌&&◌, ◌||◌, ◌==◌, nat_lt, nat_eq, List, [], ◌∷◌, length, if◌then◌else◌}
 use Rattle.std.specs.List.{starts_with}
-use Rattle.zw_token.specs.declared.token.Token.{Token}
 use Rattle.zw_token.specs.declared.token.TokenKind.{TokenKind}
 use Rattle.zw_token.specs.declared.token.TokenKind.TheVariants as kinds
-use Rattle.zw_token.specs.Tokens.{LiesIn}
 use Rattle.zw_parse_expr.specs.declared.terminal.TheConstants.{BLANK, BUILTIN, CHARACTER, COLON, COLON_NAME, COLON_TARGET, END, FOR, IMPORT, INLINE, LINE_TEXT, L_BRACE, NAME, NUMBER, QUOTED, TEXT, WHILE}
 
 -- `_` is no name
@@ -22,6 +20,7 @@ builtin_terminal bytes =
 abbrev pub sign_terminal : ℕ → ℕ
 sign_terminal number = if nat_lt number 62 then number + 32 else END
 
+-- the terminal of a token by itself
 abbrev pub terminal_by : TokenKind → List ℕ → ℕ
 terminal_by kinds.Name bytes = name_terminal bytes
 terminal_by kinds.Quoted bytes = QUOTED
@@ -34,37 +33,9 @@ terminal_by (kinds.Keyword number) bytes = number
 terminal_by (kinds.Sign number) bytes = sign_terminal number
 terminal_by kinds.End bytes = END
 
--- the terminal of a token by itself
-abbrev pub terminal_of : List ℕ → Token → ℕ
-terminal_of text token = terminal_by token.kind (slice_range text token.start token.end)
-
 -- a `:` before what can have a label, before a name, or before something else
 unfoldable pub colon_before : ℕ → ℕ
 colon_before next =
     if next == L_BRACE || next == FOR || next == WHILE || next == INLINE then COLON_TARGET
     else if next == NAME || next == QUOTED then COLON_NAME
     else COLON
-
-abbrev pub colon_behind : List ℕ → List Token → ℕ
-colon_behind text [] = COLON
-colon_behind text (next ∷ others) = colon_before (terminal_of text next)
-
--- the terminal of a token before others
-abbrev pub terminal_before : List ℕ → Token → List Token → ℕ
-terminal_before text token others = if terminal_of text token == COLON then colon_behind text others else terminal_of text token
-
--- the terminals of a list of tokens
-abbrev pub terminals : List ℕ → List Token → List ℕ
-terminals text [] = []
-terminals text (token ∷ others) = terminal_before text token others ∷ terminals text others
-
--- the last of the tokens is the end of the text
-abbrev pub EndsText : List Token → Type 0
-EndsText [] = ⊥
-EndsText (token ∷ []) = token.kind ≡ kinds.End
-EndsText (token ∷ next ∷ others) = EndsText (next ∷ others)
-
--- tokens of the text, up to its end
-pub record AreTokens (text : List ℕ) (tokens : List Token) : Type 0 where
-  pub lie : All (LiesIn text) tokens
-  pub last : EndsText tokens

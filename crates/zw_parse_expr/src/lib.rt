@@ -1,13 +1,15 @@
 //! The grammar of Zig files as data, and the reading of expressions and bodies by it.
 #![tactic(auto)]
 
+mod laws;
 mod reading;
 mod rule;
 mod table;
 mod terminal;
 mod terminals;
 
-pub use reading::{body, expr};
+pub use laws::{file_or_wrong, one_end, one_file, one_nested_file, one_wrong_file};
+pub use reading::{body, expr, root};
 pub use zw_grammar::{Builder, Built, End};
 
 #[cfg(test)]

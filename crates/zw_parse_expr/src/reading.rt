@@ -6,8 +6,10 @@ ghost use Rattle.zw_grammar.specs.Completions.{CanComplete};
 ghost use Rattle.zw_grammar.specs.Ends.{Ends};
 ghost use Rattle.zw_grammar.specs.Nodes.{Holds};
 ghost use Rattle.zw_token.specs.Tokens.{Tokens};
+ghost use Rattle.zw_parse_expr.specs.Files.{FileEnds};
+ghost use Rattle.zw_parse_expr.specs.Lexemes.{AreTokens, lexemes, terminals_of};
+ghost use Rattle.zw_parse_expr.specs.Parts.{PartEnds};
 ghost use Rattle.zw_parse_expr.specs.Rules.{rules};
-ghost use Rattle.zw_parse_expr.specs.Terminals.{AreTokens, terminals};
 
 use crate::rule::{EXPR, STRUCT_MEMBERS};
 use crate::table::rules;
@@ -32,7 +34,7 @@ fn read_rule(
     requires length { length tokens.now < 2 ^ 32 }
     requires from { from < length tokens.now }
     requires fresh { Holds into.old nothing }
-    ensures { IfOk result (λ end. Ends rules (Read number ∷ []) (terminals text.now tokens.now) from into.new end) }
+    ensures { IfOk result (λ end. Ends rules (Read number ∷ []) (terminals_of (lexemes text.now tokens.now)) from into.new end) }
 {
     let rules = rules(alloc)?;
     let terminals = terminals(alloc, text, tokens)?;
@@ -60,7 +62,8 @@ pub fn expr(
     requires length { length tokens.now < 2 ^ 32 }
     requires from { from < length tokens.now }
     requires fresh { Holds into.old nothing }
-    ensures { IfOk result (λ end. Ends rules (Read EXPR ∷ []) (terminals text.now tokens.now) from into.new end) }
+    ensures terminals { IfOk result (λ end. Ends rules (Read EXPR ∷ []) (terminals_of (lexemes text.now tokens.now)) from into.new end) }
+    ensures tokens { IfOk result (λ end. PartEnds (Read EXPR ∷ []) (lexemes text.now tokens.now) from into.new end) }
 {
     tokens_in_order();
     read_rule(alloc, EXPR, text, tokens, from, into)
@@ -79,8 +82,28 @@ pub fn body(
     requires length { length tokens.now < 2 ^ 32 }
     requires from { from < length tokens.now }
     requires fresh { Holds into.old nothing }
-    ensures { IfOk result (λ end. Ends rules (Read STRUCT_MEMBERS ∷ []) (terminals text.now tokens.now) from into.new end) }
+    ensures terminals { IfOk result (λ end. Ends rules (Read STRUCT_MEMBERS ∷ []) (terminals_of (lexemes text.now tokens.now)) from into.new end) }
+    ensures tokens { IfOk result (λ end. PartEnds (Read STRUCT_MEMBERS ∷ []) (lexemes text.now tokens.now) from into.new end) }
 {
     tokens_in_order();
     read_rule(alloc, STRUCT_MEMBERS, text, tokens, from, into)
+}
+
+/// Reads a file: the members of a struct up to the end of its tokens, into a new builder. The tokens are those of the text, fewer
+/// than 2^32, up to its end. `End::Read` tells the number of that end, `End::Wrong` the first token after which no file goes on, and
+/// `End::Nested` the one that begins the first rule nested too deep, where no token up to it is wrong (Zig Language Reference 0.13.0,
+/// Grammar, Root).
+pub fn root(alloc: Global, text: &[u8], tokens: &[Token], into: &mut Builder) -> Result<End, Oom>
+    requires tokens { Tokens text.now tokens.now }
+    requires length { length tokens.now < 2 ^ 32 }
+    requires fresh { Holds into.old nothing }
+    ensures { IfOk result (λ end. FileEnds (lexemes text.now tokens.now) into.new end) }
+{
+    tokens_in_order();
+    match read_rule(alloc, STRUCT_MEMBERS, text, tokens, 0, into)? {
+        End::Read(to) if to as usize == tokens.len() - 1 => Ok(End::Read(to)),
+        End::Read(to) => Ok(End::Wrong(to)),
+        End::Wrong(place) => Ok(End::Wrong(place)),
+        End::Nested(place) => Ok(End::Nested(place)),
+    }
 }

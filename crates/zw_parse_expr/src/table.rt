@@ -13,6 +13,7 @@ mod bodies;
 mod declarations;
 mod expressions;
 mod expressions_c;
+mod followers;
 mod functions;
 mod heads;
 mod labels;
@@ -134,6 +135,7 @@ fn add_statements(list: &mut Vec<Rule>) -> Result<(), Oom>
     declarations::add(list)?;
     public_declarations::add(list)?;
     functions::add(list)?;
+    followers::add(list)?;
     Ok(())
 }
 

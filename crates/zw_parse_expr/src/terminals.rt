@@ -1,7 +1,8 @@
 // The terminals of a list of tokens.
 ghost use Rattle.std.specs.Prelude.{◌≡◌, ◌≤◌, ◌∷◌, All, IfOk, slice_range};
 ghost use Rattle.zw_token.specs.Tokens.{LiesIn};
-ghost use Rattle.zw_parse_expr.specs.Terminals.{name_terminal, builtin_terminal, sign_terminal, terminal_of, colon_before, terminal_before, terminals};
+ghost use Rattle.zw_parse_expr.specs.Lexemes.{lexeme_of, lexemes, own_terminal, terminal_before, terminals_of};
+ghost use Rattle.zw_parse_expr.specs.Terminals.{name_terminal, builtin_terminal, sign_terminal, colon_before};
 
 use crate::terminal::{
     BLANK, BUILTIN, CHARACTER, COLON, COLON_NAME, COLON_TARGET, END, FOR, IMPORT, INLINE, L_BRACE,
@@ -42,7 +43,7 @@ fn sign_terminal(number: u8) -> u8
 // The terminal of a token by itself.
 fn terminal_of(text: &[u8], token: &Token) -> u8
     requires { LiesIn text.now token.now }
-    ensures { result ≡ terminal_of text.now token.now }
+    ensures { result ≡ own_terminal (lexeme_of text.now token.now) }
 {
     let bytes = &text[token.start as usize..token.end as usize];
     match token.kind {
@@ -77,7 +78,7 @@ fn colon_before(next: u8) -> u8
 fn terminal_before(text: &[u8], token: &Token, others: &[Token]) -> u8
     requires first { LiesIn text.now token.now }
     requires others { All (LiesIn text.now) others.now }
-    ensures { result ≡ terminal_before text.now token.now others.now }
+    ensures { result ≡ terminal_before (lexeme_of text.now token.now) (lexemes text.now others.now) }
 {
     let terminal = terminal_of(text, token);
     if terminal != COLON {
@@ -93,7 +94,7 @@ fn terminal_before(text: &[u8], token: &Token, others: &[Token]) -> u8
 /// `:` by the token behind it.
 pub(crate) fn terminals(alloc: Global, text: &[u8], tokens: &[Token]) -> Result<Vec<u8>, Oom>
     requires { All (LiesIn text.now) tokens.now }
-    ensures { IfOk result (λ list. list.items ≡ terminals text.now tokens.now) }
+    ensures { IfOk result (λ list. list.items ≡ terminals_of (lexemes text.now tokens.now)) }
 {
     let mut list = Vec::new(alloc);
     let mut left = tokens;

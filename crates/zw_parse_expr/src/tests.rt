@@ -1,5 +1,5 @@
 // Tests of whole bodies. The nodes and the places are worked out by hand from the rules of the grammar.
-use crate::{Builder, Built, End, body};
+use crate::{Builder, Built, End, body, root};
 use std::alloc::Global;
 use std::process::Abort;
 use std::test::Fail;
@@ -17,7 +17,7 @@ fn read(rt: &impl Abort, alloc: Global, text: &[u8]) -> Result<(End, Builder), F
     Ok((end, builder))
 }
 
-const ENDS: [(&str, End); 12] = [
+const ENDS: [(&str, End); 18] = [
     ("", End::Read(0)),
     ("const a = 1;", End::Read(5)),
     ("const a: [n:0]u8 = b;", End::Read(12)),
@@ -33,12 +33,38 @@ const ENDS: [(&str, End); 12] = [
     ("extern fn f() void {}", End::Wrong(6)),
     ("a: u8 }", End::Read(3)),
     ("fn f() void { _ += 1; }", End::Wrong(7)),
+    ("fn f() void { a: {}.b; }", End::Wrong(10)),
+    ("fn f() void { if (c) {}.y; }", End::Wrong(12)),
+    ("fn f() void { switch (x) {}.y; }", End::Wrong(12)),
+    ("fn f() void { {}.y; }", End::Wrong(8)),
+    ("fn f() void { x = 1; .y.z = 1; }", End::Read(18)),
+    ("fn f() void { {} {} }", End::Read(11)),
 ];
 
 #[test]
 fn bodies_end_where_they_should(rt: HostRuntime) -> Result<(), Fail> {
     for (text, end) in ENDS {
         let (found, _) = read(&rt, rt.alloc(), text.as_bytes())?;
+        assert_eq!(rt; found, end, "{text}");
+    }
+    Ok(())
+}
+
+// A file ends where its members do, or is wrong there.
+const FILE_ENDS: [(&str, End); 4] = [
+    ("", End::Read(0)),
+    ("a: u8 }", End::Wrong(3)),
+    ("const a: [n:", End::Wrong(6)),
+    ("const a: while", End::Wrong(3)),
+];
+
+#[test]
+fn files_end_where_they_should(rt: HostRuntime) -> Result<(), Fail> {
+    for (text, end) in FILE_ENDS {
+        let list = tokens(rt.alloc(), 0, text.as_bytes())?;
+        let mut builder = Builder::new(rt.alloc());
+        assert!(&rt; list.len() < 4_000_000_000);
+        let found = root(rt.alloc(), text.as_bytes(), list.as_slice(), &mut builder)?;
         assert_eq!(rt; found, end, "{text}");
     }
     Ok(())

@@ -14,8 +14,10 @@
 /// a capture does, is a kind. An optional part that another could be taken for is a child with the part as its own child
 /// (`FieldValue`, `Else`, `ContinueExpression`, `Label`).
 ///
-/// A node's tokens are those of its form, from the first to the last, so that the tokens of its children lie in it, in order. A
-/// `;` or `,` behind a form isn't part of it.
+/// A node's tokens are those of its form, from the first to the last, so that the tokens of its children lie in it, in order. A `,`
+/// behind a form isn't part of it, nor is the `;` behind a `const` or `var`, an assignment or an expression. But where an `if`, a
+/// loop, an `else`, a `defer`, an `errdefer` or a `comptime` is a statement whose own last part ends with a `;`, that `;` is its last
+/// token, and so is the one behind an `extern` function.
 #[derive(Clone, Copy, Debug, PartialEq, Eq)]
 pub enum NodeKind {
     // The file and the members of containers.

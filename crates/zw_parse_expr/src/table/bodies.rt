@@ -16,7 +16,7 @@ const BODIED: Rule = Rule {
     alternatives: &[
         Alternative {
             first: &[L_BRACE],
-            symbols: &[Read(rule::BLOCK)],
+            symbols: &[Read(rule::BLOCK), Read(rule::AFTER_BLOCK)],
         },
         Alternative {
             first: &[NAME, QUOTED],
@@ -38,7 +38,7 @@ const BODIED_NAME: Rule = Rule {
             symbols: &[
                 Build(Open(NodeKind::Label, 1)),
                 Build(Word(NAME, NodeKind::Name, NodeKind::QuotedName, 1)),
-                Read(rule::ANY_COLON),
+                Read(rule::LABEL_COLON),
                 Build(Close),
                 Read(rule::BODIED_LABEL),
             ],
@@ -56,7 +56,7 @@ const BODIED_LABEL: Rule = Rule {
     alternatives: &[
         Alternative {
             first: &[L_BRACE],
-            symbols: &[Read(rule::LABELLED_BLOCK)],
+            symbols: &[Read(rule::LABELLED_BLOCK), Read(rule::AFTER_BLOCK)],
         },
         Alternative {
             first: &[],
@@ -114,7 +114,7 @@ const BODY_NAME: Rule = Rule {
             symbols: &[
                 Build(Open(NodeKind::Label, 1)),
                 Build(Word(NAME, NodeKind::Name, NodeKind::QuotedName, 1)),
-                Read(rule::ANY_COLON),
+                Read(rule::LABEL_COLON),
                 Build(Close),
                 Read(rule::BODY_LABEL),
             ],
@@ -166,7 +166,7 @@ const ELSE_STATEMENT: Rule = Rule {
         },
         Alternative {
             first: &[],
-            symbols: &[],
+            symbols: &[Read(rule::AFTER_BLOCK)],
         },
     ],
     steps: 4,

@@ -143,7 +143,7 @@ const BREAK_LABEL: Rule = Rule {
             first: &COLONS,
             symbols: &[
                 Build(Open(NodeKind::Label, 0)),
-                Read(rule::ANY_COLON),
+                Read(rule::BREAK_COLON),
                 Read(rule::A_NAME),
                 Build(Close),
             ],

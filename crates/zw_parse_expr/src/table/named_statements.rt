@@ -19,7 +19,7 @@ const STATEMENT_NAME: Rule = Rule {
             symbols: &[
                 Build(Open(NodeKind::Label, 1)),
                 Build(Word(NAME, NodeKind::Name, NodeKind::QuotedName, 1)),
-                Read(rule::ANY_COLON),
+                Read(rule::LABEL_COLON),
                 Build(Close),
                 Read(rule::LABELLED_STATEMENT),
             ],
@@ -61,7 +61,7 @@ const LABELLED_STATEMENT: Rule = Rule {
     alternatives: &[
         Alternative {
             first: &[L_BRACE],
-            symbols: &[Read(rule::LABELLED_BLOCK)],
+            symbols: &[Read(rule::LABELLED_BLOCK), Read(rule::AFTER_BLOCK)],
         },
         Alternative {
             first: &[WHILE],

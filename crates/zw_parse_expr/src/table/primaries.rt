@@ -142,7 +142,7 @@ const PRIMARY_NAME: Rule = Rule {
             symbols: &[
                 Build(Open(NodeKind::Label, 1)),
                 Build(Word(NAME, NodeKind::Name, NodeKind::QuotedName, 1)),
-                Read(rule::ANY_COLON),
+                Read(rule::LABEL_COLON),
                 Build(Close),
                 Read(rule::LABELLED),
             ],

@@ -138,11 +138,21 @@ const STATEMENT: Rule = Rule {
         },
         Alternative {
             first: &[L_BRACE],
-            symbols: &[Build(Enter(0)), Read(rule::BLOCK), Build(Leave)],
+            symbols: &[
+                Build(Enter(0)),
+                Read(rule::BLOCK),
+                Read(rule::AFTER_BLOCK),
+                Build(Leave),
+            ],
         },
         Alternative {
             first: &[SWITCH],
-            symbols: &[Build(Enter(0)), Read(rule::SWITCH_FORM), Build(Leave)],
+            symbols: &[
+                Build(Enter(0)),
+                Read(rule::SWITCH_FORM),
+                Read(rule::AFTER_BLOCK),
+                Build(Leave),
+            ],
         },
         Alternative {
             first: &[COMPTIME],

@@ -1,7 +1,7 @@
-use Rattle.std.proofs.Common.{◌≡◌, ℕ, suc, ◌+◌, ◌<◌, Bool, false, ◌==◌, List, [], ◌∷◌, ◌++◌, reverse, Option, Some, slice_get, slice_index_or, refl, sym, ap, ◌∙◌, arith, eq-eqb}
+use Rattle.std.proofs.Common.{◌≡◌, List, [], ◌∷◌, ◌++◌, reverse, slice_index_or, ap, ◌∙◌, arith, eq-eqb}
 use Rattle.std.proofs.lemmas.Option.{slice_get-get_or}
 use Rattle.zw_grammar.specs.declared.grammar.Symbol.{Symbol}
-use Rattle.zw_grammar.specs.declared.grammar.Symbol.TheVariants.{Take, Read, Build}
+use Rattle.zw_grammar.specs.declared.grammar.Symbol.TheVariants.{Read}
 use Rattle.zw_grammar.specs.Reading.Leads.{here}
 use Rattle.zw_grammar.specs.Grammars.{steps_of}
 use Rattle.zw_grammar.specs.Plain.{plain}

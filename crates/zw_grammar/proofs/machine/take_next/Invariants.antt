@@ -1,4 +1,4 @@
-use Rattle.std.proofs.Common.{ℕ, reverse}
+use Rattle.std.proofs.Common.{reverse}
 use Rattle.zw_grammar.specs.Building.{Building}
 use Rattle.zw_grammar.specs.Grammars.{steps_of}
 use Rattle.zw_grammar.specs.Nodes.{Holds}

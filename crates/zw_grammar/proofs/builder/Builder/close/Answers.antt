@@ -1,4 +1,4 @@
-use Rattle.std.proofs.Common.{◌≡◌, suc, ◌-◌, length, arith, ◌++◌, List, [], ◌∷◌, ap, sym, ◌∙◌}
+use Rattle.std.proofs.Common.{arith, sym, ◌∙◌}
 use Rattle.zw_grammar.proofs.NodeLemmas.{closes}
 use Rattle.zw_grammar.proofs.builder.Builder.close.Goals as goal
 

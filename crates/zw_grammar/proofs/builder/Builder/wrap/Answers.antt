@@ -1,6 +1,5 @@
-use Rattle.std.proofs.Common.{◌≡◌, ℕ, ◌-◌, ◌++◌, List, [], ◌∷◌, length, refl, sym, ap, ◌∙◌}
-use Rattle.zw_tree.specs.Trees.{Forest, beside, trees}
-use Rattle.zw_grammar.specs.declared.builder.Built.{Built}
+use Rattle.std.proofs.Common.{◌≡◌, ◌-◌, ◌++◌, List, [], ◌∷◌, length, sym, ap, ◌∙◌}
+use Rattle.zw_tree.specs.Trees.{Forest, trees}
 use Rattle.zw_grammar.specs.declared.builder.Opened.{Opened}
 use Rattle.zw_grammar.specs.Building.{Span, front, rest, start_of}
 use Rattle.zw_grammar.specs.Nodes.{nodes, all_nodes, older_nodes, opened}
