@@ -1,0 +1,6 @@
+pub mod Sameness
+pub mod SamenessLaws
+pub mod Parts
+pub mod Children
+pub mod Counting
+pub mod WorkedCounts

@@ -1,0 +1,6 @@
+//! What the rules of forms work with: parts, requests, the children of a node, and what is counted.
+#![tactic(auto)]
+
+mod laws;
+
+pub use laws::{computing_forms_say_the_same, counts_are_worked};

@@ -1,0 +1,9 @@
+pub mod Walk
+pub mod Files
+pub mod Laws
+pub mod Building
+pub mod WorkedExpressions
+pub mod WorkedDeclarations
+pub mod WorkedHost
+pub mod WorkedWanted
+pub mod WorkedForms

@@ -1,0 +1,3 @@
+pub mod Nodes
+pub mod NodeMeanings
+pub mod Exports
