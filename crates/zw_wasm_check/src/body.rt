@@ -1,16 +1,18 @@
 // The code of a function from its first instruction to its end (3.4.1).
-ghost use Rattle.std.specs.Prelude.{◌≡◌, [], List, drop, length, IfOk};
+ghost use Rattle.std.specs.Prelude.{◌≡◌, ◌≤◌, ◌<◌, ◌^◌, [], List, drop, length, IfOk, IfSome};
 ghost use Rattle.std.specs.Option.{option_map, option_to_list};
 ghost use Rattle.zw_wasm.specs.Functions.{func_type};
+ghost use Rattle.zw_wasm.specs.ModuleBytes.{local_count};
 ghost use Rattle.zw_wasm.specs.Typing.{body_control, check_code, nothing_behind};
 ghost use Rattle.zw_wasm.specs.Validity.{check_body};
 ghost use Rattle.zw_wasm_check.specs.Bodies.{place_of};
 ghost use Rattle.zw_wasm_check.specs.Stacks.{context_of};
 
 use crate::context::func_type;
+use crate::locals::Locals;
 use crate::stacks::{Fault, Stacks, Step};
 use std::alloc::{AllocError, Global};
-use zw_wasm::{CodeBody, FuncType, Instr, Module, ValType};
+use zw_wasm::{CodeBody, FuncType, Instr, Module};
 
 /// Where a body breaks a rule: the number of the instruction, and why. Code that stops before its end breaks one behind
 /// its last instruction.
@@ -25,13 +27,18 @@ pub struct Place {
 pub fn check_body(
     alloc: Global,
     m: &Module,
-    func: u32,
+    func: usize,
     body: &CodeBody,
 ) -> Result<Option<Place>, AllocError>
-    ensures { IfOk result (λ place. check_body m.now (func_type m.now func) body.now ≡ option_map place_of place) }
+    requires { local_count body.now.locals < 2 ^ 32 }
+    ensures first { IfOk result (λ place. check_body m.now (func_type m.now func) body.now ≡ option_map place_of place) }
+    ensures within { IfOk result (λ place. IfSome place (λ p. p.at ≤ length body.now.instrs)) }
 {
     match func_type(m, func) {
-        Some(ty) => check_code(alloc, m, ty, body.locals.as_slice(), body.instrs.as_slice()),
+        Some(ty) => {
+            let locals = Locals::new(alloc, body.locals.as_slice())?;
+            check_code(alloc, m, ty, &locals, body.instrs.as_slice())
+        }
         None => Ok(None),
     }
 }
@@ -41,14 +48,15 @@ fn check_code(
     alloc: Global,
     m: &Module,
     ty: &FuncType,
-    runs: &[(u32, ValType)],
+    locals: &Locals,
     instrs: &[Instr],
 ) -> Result<Option<Place>, AllocError>
-    ensures { IfOk result (λ place. check_code (context_of m.now ty.now runs.now) 0 instrs.now [] (body_control (option_to_list ty.now.result)) [] ≡ option_map place_of place) }
+    ensures first { IfOk result (λ place. check_code (context_of m.now ty.now locals.now) 0 instrs.now [] (body_control (option_to_list ty.now.result)) [] ≡ option_map place_of place) }
+    ensures within { IfOk result (λ place. IfSome place (λ p. p.at ≤ length instrs.now)) }
 {
     let mut stacks = Stacks::new(alloc, ty.result);
     for at in 0..instrs.len() {
-        match stacks.step(alloc, m, ty, runs, &instrs[at])? {
+        match stacks.step(alloc, m, ty, locals, &instrs[at])? {
             Step::Goes => {}
             Step::Closes => return Ok(behind_end(at + 1, instrs.len())),
             Step::Refused(fault) => return Ok(Some(Place { at, fault })),
@@ -62,7 +70,8 @@ fn check_code(
 
 /// Nothing stands behind the end, which is before `next`.
 fn behind_end(next: usize, count: usize) -> Option<Place>
-    ensures { (instrs : List Instr) → length instrs ≡ count → nothing_behind next (drop next instrs) ≡ option_map place_of result }
+    ensures first { (instrs : List Instr) → length instrs ≡ count → nothing_behind next (drop next instrs) ≡ option_map place_of result }
+    ensures within { IfSome result (λ p. p.at ≤ count) }
 {
     if next < count {
         Some(Place {

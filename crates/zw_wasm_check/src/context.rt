@@ -3,14 +3,15 @@ ghost use Rattle.std.specs.Prelude.{◌≡◌, ◌++◌, slice_get, option_copie
 ghost use Rattle.zw_wasm.specs.Functions.{func_type, func_type_indices};
 ghost use Rattle.zw_wasm.specs.Validity.{expanded};
 
+use crate::locals::Locals;
 use sqlite_items::at;
 use zw_wasm::{FuncType, Module, ValType};
 
 /// The type of a function, by its number among the imported ones and those with a body, where both are there.
-pub fn func_type(m: &Module, func: u32) -> Option<&FuncType>
+pub fn func_type(m: &Module, func: usize) -> Option<&FuncType>
     ensures { option_copied result ≡ func_type m.now func }
 {
-    let number = type_number(m, func as usize)?;
+    let number = type_number(m, func)?;
     at(m.types.as_slice(), number as usize)
 }
 
@@ -25,27 +26,12 @@ fn type_number(m: &Module, func: usize) -> Option<u32>
 }
 
 /// The type of a parameter or local, by its number, where it is there.
-pub fn local_type(ty: &FuncType, runs: &[(u32, ValType)], local: u32) -> Option<ValType>
-    ensures { result ≡ slice_get (ty.now.params ++ expanded runs.now) local }
+pub fn local_type(ty: &FuncType, locals: &Locals, local: u32) -> Option<ValType>
+    ensures { result ≡ slice_get (ty.now.params ++ expanded locals.now) local }
 {
     let local = local as usize;
     if local < ty.params.len() {
         return at(ty.params.as_slice(), local).copied();
     }
-    type_in_runs(runs, local - ty.params.len())
-}
-
-/// The type of a local, by its number in runs of locals of one type.
-fn type_in_runs(runs: &[(u32, ValType)], local: usize) -> Option<ValType>
-    ensures { result ≡ slice_get (expanded runs.now) local }
-{
-    let mut left = local;
-    for (count, ty) in runs {
-        let count = *count as usize;
-        if left < count {
-            return Some(*ty);
-        }
-        left -= count;
-    }
-    None
+    locals.type_of(local - ty.params.len())
 }

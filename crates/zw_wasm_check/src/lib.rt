@@ -4,11 +4,18 @@
 mod accesses;
 mod body;
 mod branches;
+mod constants;
 mod context;
+mod entries;
+mod exports;
+mod laws;
+mod locals;
+mod module;
 mod operands;
+mod outside;
 mod stacks;
 mod step;
 mod values;
 
-pub use body::{Place, check_body};
-pub use stacks::Fault;
+pub use laws::valid_without_violation;
+pub use module::{CheckErr, Checked, check};

@@ -23,6 +23,22 @@ pub enum Fault {
     Alignment = 3,
 }
 
+impl Fault {
+    ghost use Rattle.std.specs.Prelude.{◌≡◌};
+    ghost use Rattle.zw_wasm_check.specs.Stacks.{number_of};
+
+    /// Its number.
+    pub fn number(self) -> u8
+        ensures { result ≡ number_of self }
+    {
+        match self {
+            Fault::Index => 1,
+            Fault::Type => 2,
+            Fault::Alignment => 3,
+        }
+    }
+}
+
 /// What comes of an instruction: the code goes on, its outermost sequence ends, or the instruction is refused.
 #[derive(Drop)]
 pub enum Step {

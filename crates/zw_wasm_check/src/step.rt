@@ -3,6 +3,7 @@ ghost use Rattle.std.specs.Prelude.{◌≡◌, IfOk};
 ghost use Rattle.zw_wasm.specs.Typing.{check_instr};
 ghost use Rattle.zw_wasm_check.specs.Stacks.{ComesTo, context_of};
 
+use crate::locals::Locals;
 use crate::stacks::{Stacks, Step};
 use std::alloc::{AllocError, Global};
 use zw_wasm::{FuncType, Instr, Module, ValType};
@@ -14,10 +15,10 @@ impl Stacks {
         alloc: Global,
         m: &Module,
         ty: &FuncType,
-        runs: &[(u32, ValType)],
+        locals: &Locals,
         instr: &Instr,
     ) -> Result<Step, AllocError>
-        ensures { IfOk result (λ step. ComesTo (check_instr (context_of m.now ty.now runs.now) instr.now) self.old step self.new) }
+        ensures { IfOk result (λ step. ComesTo (check_instr (context_of m.now ty.now locals.now) instr.now) self.old step self.new) }
     {
         match instr {
             Instr::Unreachable => Ok(self.jump(alloc, &[])),
@@ -37,9 +38,9 @@ impl Stacks {
             Instr::CallIndirect(ty) => self.call_indirect(m, *ty),
             Instr::Drop => Ok(self.drop_one()),
             Instr::Select => self.select(),
-            Instr::LocalGet(local) => self.local_get(ty, runs, *local),
-            Instr::LocalSet(local) => self.local_set(ty, runs, *local),
-            Instr::LocalTee(local) => self.local_tee(ty, runs, *local),
+            Instr::LocalGet(local) => self.local_get(ty, locals, *local),
+            Instr::LocalSet(local) => self.local_set(ty, locals, *local),
+            Instr::LocalTee(local) => self.local_tee(ty, locals, *local),
             Instr::GlobalGet(global) => self.global_get(m, *global),
             Instr::GlobalSet(global) => self.global_set(m, *global),
             Instr::Load(kind, place) => self.load(m, *kind, *place),

@@ -9,6 +9,7 @@ ghost use Rattle.zw_wasm_check.specs.Stacks.{ComesTo, context_of};
 
 use crate::accesses::{load_alignment, load_type, store_alignment, store_type};
 use crate::context::{func_type, local_type};
+use crate::locals::Locals;
 use crate::operands::{put, same_type, take, take_all, take_one};
 use crate::stacks::{Fault, Stacks, Step};
 use sqlite_items::at;
@@ -20,7 +21,7 @@ impl Stacks {
     pub fn call(&mut self, m: &Module, func: u32) -> Result<Step, AllocError>
         ensures { (t : FuncType) (runs : List (ℕ × ValType)) → IfOk result (λ step. ComesTo (check_instr (context_of m.now t runs) (Instr.Call func)) self.old step self.new) }
     {
-        match func_type(m, func) {
+        match func_type(m, func as usize) {
             Some(ty) => self.replace(ty.params.as_slice(), ty.result),
             None => Ok(Step::Refused(Fault::Index)),
         }
@@ -84,12 +85,12 @@ impl Stacks {
     pub fn local_get(
         &mut self,
         ty: &FuncType,
-        runs: &[(u32, ValType)],
+        locals: &Locals,
         local: u32,
     ) -> Result<Step, AllocError>
-        ensures { (m : Module) → IfOk result (λ step. ComesTo (check_instr (context_of m ty.now runs.now) (Instr.LocalGet local)) self.old step self.new) }
+        ensures { (m : Module) → IfOk result (λ step. ComesTo (check_instr (context_of m ty.now locals.now) (Instr.LocalGet local)) self.old step self.new) }
     {
-        match local_type(ty, runs, local) {
+        match local_type(ty, locals, local) {
             Some(ty) => self.replace(&[], Some(ty)),
             None => Ok(Step::Refused(Fault::Index)),
         }
@@ -99,12 +100,12 @@ impl Stacks {
     pub fn local_set(
         &mut self,
         ty: &FuncType,
-        runs: &[(u32, ValType)],
+        locals: &Locals,
         local: u32,
     ) -> Result<Step, AllocError>
-        ensures { (m : Module) → IfOk result (λ step. ComesTo (check_instr (context_of m ty.now runs.now) (Instr.LocalSet local)) self.old step self.new) }
+        ensures { (m : Module) → IfOk result (λ step. ComesTo (check_instr (context_of m ty.now locals.now) (Instr.LocalSet local)) self.old step self.new) }
     {
-        match local_type(ty, runs, local) {
+        match local_type(ty, locals, local) {
             Some(ty) => self.replace(&[ty], None),
             None => Ok(Step::Refused(Fault::Index)),
         }
@@ -114,12 +115,12 @@ impl Stacks {
     pub fn local_tee(
         &mut self,
         ty: &FuncType,
-        runs: &[(u32, ValType)],
+        locals: &Locals,
         local: u32,
     ) -> Result<Step, AllocError>
-        ensures { (m : Module) → IfOk result (λ step. ComesTo (check_instr (context_of m ty.now runs.now) (Instr.LocalTee local)) self.old step self.new) }
+        ensures { (m : Module) → IfOk result (λ step. ComesTo (check_instr (context_of m ty.now locals.now) (Instr.LocalTee local)) self.old step self.new) }
     {
-        match local_type(ty, runs, local) {
+        match local_type(ty, locals, local) {
             Some(ty) => self.replace(&[ty], Some(ty)),
             None => Ok(Step::Refused(Fault::Index)),
         }

@@ -18,7 +18,7 @@ use Rattle.zw_wasm_read.proofs.VectorLemmas.{vector_unfit}
 
 -- ---- the entries of a section
 
-sure-entry : (s : SectionKind) → Sure (IsEntry s)
+pub sure-entry : (s : SectionKind) → Sure (IsEntry s)
 sure-entry Types = sure-function_type
 sure-entry Imports = sure-import
 sure-entry Functions = sure-u32
@@ -30,7 +30,7 @@ sure-entry Elements = sure-element
 sure-entry Codes = sure-code
 sure-entry Datas = sure-data
 
-number_range : (s : SectionKind) → (1 ≤ number_of s) × (number_of s ≤ 11)
+pub number_range : (s : SectionKind) → (1 ≤ number_of s) × (number_of s ≤ 11)
 number_range Types = (omega arith, omega arith)
 number_range Imports = (omega arith, omega arith)
 number_range Functions = (omega arith, omega arith)
@@ -101,7 +101,7 @@ no_such_content P sure xs content (HasNoEnd.more ys b rest l) v =
 entry_lacks : {X : Type 0} (P : X → List ℕ → Type 0) → Sure P → (xs : List X) (content rest : List ℕ) → LacksEntry P content rest → IsVector P xs content → ⊥
 entry_lacks P sure xs content rest k v = vector_unfit P sure k.count k.entries content k.behind_count rest k.counted k.before k.missing k.none xs [] (all_of content v)
 
-section_stops : {X : Type 0} (id : ℕ) (P : X → List ℕ → Type 0) → Sure P → (total : ℕ) (bytes : List ℕ) (at : ℕ) (code : BadCode) → SectionStop id P total bytes at code → (xs : List X) (rest : List ℕ) → Leaves (IsSection id (IsVector P xs)) bytes rest → ⊥
+pub section_stops : {X : Type 0} (id : ℕ) (P : X → List ℕ → Type 0) → Sure P → (total : ℕ) (bytes : List ℕ) (at : ℕ) (code : BadCode) → SectionStop id P total bytes at code → (xs : List X) (rest : List ℕ) → Leaves (IsSection id (IsVector P xs)) bytes rest → ⊥
 section_stops id P sure total bytes _ _ (SectionStop.no_frame at u place) xs rest l =
     let p = section_parts id (IsVector P xs) bytes rest l in
     u p.0 rest p.2
@@ -114,7 +114,7 @@ section_stops id P sure total bytes _ _ (SectionStop.no_entry at content left la
     let same = frame_one id content p.0 bytes left rest f p.2 in
     entry_lacks P sure xs p.0 last (subst (λ (c : List ℕ). LacksEntry P c last) same.0 h) p.1
 
-start_stops : (total : ℕ) (bytes : List ℕ) (at : ℕ) (code : BadCode) → StartStop total bytes at code → (i : ℕ) (rest : List ℕ) → Leaves (IsSection 8 (IsU32 i)) bytes rest → ⊥
+pub start_stops : (total : ℕ) (bytes : List ℕ) (at : ℕ) (code : BadCode) → StartStop total bytes at code → (i : ℕ) (rest : List ℕ) → Leaves (IsSection 8 (IsU32 i)) bytes rest → ⊥
 start_stops total bytes _ _ (StartStop.no_frame at u place) i rest l =
     let p = section_parts 8 (IsU32 i) bytes rest l in
     u p.0 rest p.2
@@ -129,7 +129,7 @@ start_stops total bytes _ _ (StartStop.no_index at content left f u place) i res
     let same = frame_one 8 content p.0 bytes left rest f p.2 in
     u i [] (subst (λ (c : List ℕ). Leaves (IsU32 i) c []) (sym same.0) (all_of p.0 p.1))
 
-custom_stops : (bytes rest : List ℕ) → IsBadCustom bytes → Leaves IsCustomSection bytes rest → ⊥
+pub custom_stops : (bytes rest : List ℕ) → IsBadCustom bytes → Leaves IsCustomSection bytes rest → ⊥
 custom_stops bytes rest (IsBadCustom.no_frame u) l =
     let p = section_parts 0 (IsSomeName ⌢ Anything) bytes rest l in
     u p.0 rest p.2

@@ -12,3 +12,4 @@ pub mod SectionLemmas
 pub mod ModuleLemmas
 pub mod Tails
 pub mod Excluded
+pub mod Stopping

@@ -14,3 +14,8 @@ pub fn one_module()
 pub fn no_module()
     ensures { (bytes : List ℕ) (at : ℕ) (code : BadCode) → IsStop bytes at code → (m : Module) → ModuleBytes m bytes → ⊥ }
 {}
+
+/// Reading stops at one place, and for one reason.
+pub fn one_stop_of_bytes()
+    ensures { (bytes : List ℕ) (at other : ℕ) (code another : BadCode) → IsStop bytes at code → IsStop bytes other another → (at ≡ other) × (code ≡ another) }
+{}

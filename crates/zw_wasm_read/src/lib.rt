@@ -14,6 +14,6 @@ mod types;
 mod unread;
 mod vectors;
 
-pub use laws::{no_module, one_module};
+pub use laws::{no_module, one_module, one_stop_of_bytes};
 pub use module::read;
 pub use stop::{BadCode, ReadErr};
