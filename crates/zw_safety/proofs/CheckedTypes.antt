@@ -14,10 +14,10 @@ use Rattle.zw_wasm.specs.declared.module.ValType.TheVariants.{I32}
 use Rattle.zw_wasm.specs.Sequences.{Takes}
 use Rattle.zw_wasm.specs.Typing.{Context}
 
-first_local : (s : ℕ) (locals : List ValType) → ScratchIsTyped s locals → slice_get locals s ≡ Some I32
+pub first_local : (s : ℕ) (locals : List ValType) → ScratchIsTyped s locals → slice_get locals s ≡ Some I32
 first_local s locals h = subst (λ n. slice_get locals n ≡ Some I32) (add-zero s) (h.first 0 (lit< tt))
 
-second_local : (s : ℕ) (locals : List ValType) → ScratchIsTyped s locals → slice_get locals (s + 1) ≡ Some I32
+pub second_local : (s : ℕ) (locals : List ValType) → ScratchIsTyped s locals → slice_get locals (s + 1) ≡ Some I32
 second_local s locals h = h.first 1 (lit< tt)
 
 takes-set : (x : Context) (n : ℕ) (ts : List ValType) → IsNumberGlobal x.module_ n → Takes x (GlobalSet n ∷ []) (I32 ∷ ts) ts

@@ -1,6 +1,6 @@
 -- What the code of operators on types of at most 32 bits does when it runs.
-use Rattle.std.proofs.Common.{◌≡◌, ℕ, ℤ, pos, ◌+◌, ◌-◌, ◌*◌, ◌/◌, ◌%◌, ◌^◌, ◌<◌, ◌≤◌, ◌+ℤ◌, ◌-ℤ◌, ◌*ℤ◌, Bool, true, false, not, List, [], ◌∷◌, ◌++◌, length, Some, Ok, Err, inl, inr, refl, sym, ap, ◌∙◌, subst, arith, lit≤, lit<}
-use Rattle.std.specs.Prelude.{nat_lt, nat_le, slice_get, slice_set, Result, if◌then◌else◌}
+use Rattle.std.proofs.Common.{◌≡◌, ℕ, ℤ, pos, ◌+◌, ◌-◌, ◌/◌, ◌^◌, ◌≤◌, ◌+ℤ◌, ◌-ℤ◌, ◌*ℤ◌, Bool, true, false, not, List, [], ◌∷◌, ◌++◌, Some, Ok, Err, refl, sym, ap, ◌∙◌, subst, arith, lit≤, lit<}
+use Rattle.std.specs.Prelude.{nat_lt, slice_get, slice_set, Result, if◌then◌else◌}
 use Rattle.std.proofs.lemmas.Bool.{le-leb, ltb-false}
 use Rattle.std.proofs.lemmas.List.{length-set}
 use Rattle.std.specs.Int.{w32, w64}
@@ -10,10 +10,9 @@ use Rattle.zw_num.specs.declared.int_ty.IntTy.TheVariants.{Sized, Comptime}
 use Rattle.zw_num.specs.declared.num_fault.NumFault.{NumFault}
 use Rattle.zw_num.specs.declared.num_fault.NumFault.TheVariants.{Overflow}
 use Rattle.zw_safety.proofs.Locals.{slice_get-set_same, keeps-same, keeps-set}
-use Rattle.zw_safety.proofs.Pieces.{State, having, stands, Steps, Fails, steps-none, steps-then, fails-behind, fails-before, steps-set, steps-get, steps-const, steps-long_const, steps-wrap, steps-extend_s, steps-extend_u, steps-long, steps-word, steps-compare_long, steps-passed, fails-panics}
+use Rattle.zw_safety.proofs.Pieces.{having, Steps, Fails, steps-none, steps-then, fails-behind, fails-before, steps-set, steps-get, steps-const, steps-long_const, steps-wrap, steps-extend_s, steps-extend_u, steps-long, steps-word, steps-compare_long, steps-passed, fails-panics}
 use Rattle.zw_safety.proofs.Words.{IsWord, IsLong, word-narrow, add_bits, sub_bits, mul_bits, extend_signed, extend_unsigned, wrap_long, long_sum, long_difference, long_product, tells_range, wrapped_word, masked, wrapped_unsigned, lift_word, lift_long, wrapped_signed, minus_least}
 use Rattle.zw_safety.specs.Checked.{HasScratch, HasPanicState, KeepsOthers}
-use Rattle.zw_safety.specs.Code.{if_panics}
 use Rattle.zw_safety.specs.NarrowCode.{extension, above_least, extended, in_range, exact_code, narrowed, wrapped_code}
 use Rattle.zw_safety.specs.Operators.{IsNarrow, EndsWith, filled}
 use Rattle.zw_session.specs.Causes.{integer_overflow}
@@ -22,7 +21,7 @@ use Rattle.zw_wasm.specs.declared.module.BinaryOperator.TheVariants.{Add, Sub, M
 use Rattle.zw_wasm.specs.declared.module.Comparison.TheVariants.{GtU}
 use Rattle.zw_wasm.specs.declared.module.Conversion.TheVariants.{Wrap}
 use Rattle.zw_wasm.specs.declared.module.Instr.{Instr}
-use Rattle.zw_wasm.specs.declared.module.Instr.TheVariants.{LocalGet, LocalSet, I32Const, I64Const, Binary, Compare, Convert}
+use Rattle.zw_wasm.specs.declared.module.Instr.TheVariants.{LocalGet, LocalSet, Binary, Convert}
 use Rattle.zw_wasm.specs.declared.module.Module.{Module}
 use Rattle.zw_wasm.specs.declared.module.ValType.TheVariants as ty
 use Rattle.zw_wasm.specs.declared.num.Num.{Num}
@@ -31,7 +30,7 @@ use Rattle.zw_wasm.specs.Numerics.{Gives, binary_of}
 use Rattle.zw_wasm.specs.Reduction.{Config}
 use Rattle.zw_wasm.specs.Sequences.{placed, with_locals, Runs}
 use Rattle.zw_wasm.specs.Signature.{View}
-use Rattle.zw_wasm.specs.Structure.{Code, code_of}
+use Rattle.zw_wasm.specs.Structure.{code_of}
 
 -- an operator that works on bits of any width as on the numbers
 pub record Operation (o : BinaryOperator) (f : ℤ → ℤ → ℤ) : Type 0 where
@@ -75,10 +74,10 @@ steps-extension m v c Comptime z os locals h i = absurd h
 abbrev pub long_kept : ℕ → ℤ → List Num → List Num
 long_kept s z locals = slice_set locals (s + 4) (I64 (pattern 64 z))
 
-long-there : (s : ℕ) (z : ℤ) (locals : List Num) → HasScratch s locals → slice_get (long_kept s z locals) (s + 4) ≡ Some (I64 (pattern 64 z))
+pub long-there : (s : ℕ) (z : ℤ) (locals : List Num) → HasScratch s locals → slice_get (long_kept s z locals) (s + 4) ≡ Some (I64 (pattern 64 z))
 long-there s z locals h = slice_get-set_same locals (s + 4) (I64 (pattern 64 z)) (omega (arith, h))
 
-long-count : (s : ℕ) (z : ℤ) (locals : List Num) → HasScratch s locals → HasScratch s (long_kept s z locals)
+pub long-count : (s : ℕ) (z : ℤ) (locals : List Num) → HasScratch s locals → HasScratch s (long_kept s z locals)
 long-count s z locals h = omega (arith, h, length-set locals (s + 4) (I64 (pattern 64 z)))
 
 pub steps-extended : (m : Module) (v : View) (c : Config) (left right : IntTy) (s : ℕ) (a b : ℤ) (os locals : List Num) → IsNarrow left → IsNarrow right → IsIn left a → IsIn right b → HasScratch s locals → Steps m v c (extended left right s) (having (I32 (pattern 32 b) ∷ I32 (pattern 32 a) ∷ os) locals) (having (I64 (pattern 64 b) ∷ I64 (pattern 64 a) ∷ os) (long_kept s b locals)) 4
@@ -101,12 +100,12 @@ steps-computed m v c o f s a b os locals op h =
 
 -- ---- the test that a number in 64 bits is a value of a type
 
-abbrev above_count : IntTy → ℕ
+abbrev pub above_count : IntTy → ℕ
 above_count (Sized true count) = 2
 above_count (Sized false count) = 0
 above_count Comptime = 0
 
-above-few : (t : IntTy) → above_count t ≤ 2
+pub above-few : (t : IntTy) → above_count t ≤ 2
 above-few (Sized true count) = omega arith
 above-few (Sized false count) = omega arith
 above-few Comptime = omega arith
@@ -145,7 +144,7 @@ in_range-fails m v c to z os locals h long e state =
 
 -- ---- the exact result
 
-kept-longs : (s : ℕ) (b z : ℤ) (locals : List Num) → KeepsOthers s locals (long_kept s z (long_kept s b locals))
+pub kept-longs : (s : ℕ) (b z : ℤ) (locals : List Num) → KeepsOthers s locals (long_kept s z (long_kept s b locals))
 kept-longs s b z locals =
     keeps-set s 4 locals (long_kept s b locals) (I64 (pattern 64 z)) (lit< tt)
     (keeps-set s 4 locals locals (I64 (pattern 64 b)) (lit< tt) (keeps-same s locals))

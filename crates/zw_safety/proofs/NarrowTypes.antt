@@ -1,5 +1,5 @@
 -- The types of the code of operators on types of at most 32 bits, and that it may stand anywhere.
-use Rattle.std.proofs.Common.{◌≡◌, ℕ, pos, ◌+◌, ◌/◌, ◌^◌, Bool, true, false, List, [], ◌∷◌, ◌++◌, Some, refl, sym, ap, subst, lit<, add-zero}
+use Rattle.std.proofs.Common.{◌≡◌, ℕ, pos, ◌+◌, ◌/◌, ◌^◌, Bool, true, false, List, [], ◌∷◌, Some, refl, ap, subst, lit<, add-zero}
 use Rattle.std.proofs.lemmas.Bool.{le-leb}
 use Rattle.std.specs.Prelude.{nat_lt, slice_get, if◌then◌else◌}
 use Rattle.zw_num.specs.Arithmetic.{width}
@@ -16,7 +16,7 @@ use Rattle.zw_wasm.specs.declared.module.BinaryOperator.TheVariants.{Add, Sub, A
 use Rattle.zw_wasm.specs.declared.module.Comparison.{Comparison}
 use Rattle.zw_wasm.specs.declared.module.Comparison.TheVariants.{GtU}
 use Rattle.zw_wasm.specs.declared.module.Conversion.TheVariants.{Wrap}
-use Rattle.zw_wasm.specs.declared.module.Instr.TheVariants.{LocalGet, LocalSet, I64Const, Binary, Compare, Convert}
+use Rattle.zw_wasm.specs.declared.module.Instr.TheVariants.{I64Const, Binary, Compare, Convert}
 use Rattle.zw_wasm.specs.declared.module.ValType.{ValType}
 use Rattle.zw_wasm.specs.declared.module.ValType.TheVariants.{I32, I64}
 use Rattle.zw_wasm.specs.Sequences.{Takes}
@@ -31,39 +31,39 @@ type-narrow Comptime h = absurd h
 pub long_local : (s : ℕ) (locals : List ValType) → ScratchIsTyped s locals → slice_get locals (s + 4) ≡ Some I64
 long_local s locals h = subst (λ n. slice_get locals n ≡ Some I64) (add-zero (s + 4)) (h.second 0 (lit< tt))
 
-takes-extension : (x : Context) (t : IntTy) (ts : List ValType) → Takes x (Convert (extension t) ∷ []) (I32 ∷ ts) (I64 ∷ ts)
+pub takes-extension : (x : Context) (t : IntTy) (ts : List ValType) → Takes x (Convert (extension t) ∷ []) (I32 ∷ ts) (I64 ∷ ts)
 takes-extension x (Sized true count) ts = takes-instr x (Convert (extension (Sized true count))) (I32 ∷ ts) (I64 ∷ ts) (λ below c outer. refl)
 takes-extension x (Sized false count) ts = takes-instr x (Convert (extension (Sized false count))) (I32 ∷ ts) (I64 ∷ ts) (λ below c outer. refl)
 takes-extension x Comptime ts = takes-instr x (Convert (extension Comptime)) (I32 ∷ ts) (I64 ∷ ts) (λ below c outer. refl)
 
-takes-long : (x : Context) (o : BinaryOperator) (ts : List ValType) → Takes x (Binary I64 o ∷ []) (I64 ∷ I64 ∷ ts) (I64 ∷ ts)
+pub takes-long : (x : Context) (o : BinaryOperator) (ts : List ValType) → Takes x (Binary I64 o ∷ []) (I64 ∷ I64 ∷ ts) (I64 ∷ ts)
 takes-long x o ts = takes-instr x (Binary I64 o) (I64 ∷ I64 ∷ ts) (I64 ∷ ts) (λ below c outer. refl)
 
 pub takes-word : (x : Context) (o : BinaryOperator) (ts : List ValType) → Takes x (Binary I32 o ∷ []) (I32 ∷ I32 ∷ ts) (I32 ∷ ts)
 takes-word x o ts = takes-instr x (Binary I32 o) (I32 ∷ I32 ∷ ts) (I32 ∷ ts) (λ below c outer. refl)
 
-takes-long_const : (x : Context) (z : ℤ) (ts : List ValType) → Takes x (I64Const z ∷ []) ts (I64 ∷ ts)
+pub takes-long_const : (x : Context) (z : ℤ) (ts : List ValType) → Takes x (I64Const z ∷ []) ts (I64 ∷ ts)
 takes-long_const x z ts = takes-instr x (I64Const z) ts (I64 ∷ ts) (λ below c outer. refl)
 
-takes-compare_long : (x : Context) (o : Comparison) (ts : List ValType) → Takes x (Compare I64 o ∷ []) (I64 ∷ I64 ∷ ts) (I32 ∷ ts)
+pub takes-compare_long : (x : Context) (o : Comparison) (ts : List ValType) → Takes x (Compare I64 o ∷ []) (I64 ∷ I64 ∷ ts) (I32 ∷ ts)
 takes-compare_long x o ts = takes-instr x (Compare I64 o) (I64 ∷ I64 ∷ ts) (I32 ∷ ts) (λ below c outer. refl)
 
-takes-wrap : (x : Context) (ts : List ValType) → Takes x (Convert Wrap ∷ []) (I64 ∷ ts) (I32 ∷ ts)
+pub takes-wrap : (x : Context) (ts : List ValType) → Takes x (Convert Wrap ∷ []) (I64 ∷ ts) (I32 ∷ ts)
 takes-wrap x ts = takes-instr x (Convert Wrap) (I64 ∷ ts) (I32 ∷ ts) (λ below c outer. refl)
 
-takes-extended : (x : Context) (left right : IntTy) (s : ℕ) (ts : List ValType) → ScratchIsTyped s x.locals → Takes x (extended left right s) (I32 ∷ I32 ∷ ts) (I64 ∷ I64 ∷ ts)
+pub takes-extended : (x : Context) (left right : IntTy) (s : ℕ) (ts : List ValType) → ScratchIsTyped s x.locals → Takes x (extended left right s) (I32 ∷ I32 ∷ ts) (I64 ∷ I64 ∷ ts)
 takes-extended x left right s ts h =
     let there = long_local s x.locals h in
     takes-then (takes-extension x right (I32 ∷ ts))
     (takes-then (takes-local_set x (s + 4) I64 (I32 ∷ ts) there)
     (takes-then (takes-extension x left ts) (takes-local_get x (s + 4) I64 (I64 ∷ ts) there)))
 
-takes-above : (x : Context) (to : IntTy) (ts : List ValType) → Takes x (above_least to) (I64 ∷ ts) (I64 ∷ ts)
+pub takes-above : (x : Context) (to : IntTy) (ts : List ValType) → Takes x (above_least to) (I64 ∷ ts) (I64 ∷ ts)
 takes-above x (Sized true count) ts = takes-then (takes-long_const x (pos (2 ^ count / 2)) (I64 ∷ ts)) (takes-long x Add ts)
 takes-above x (Sized false count) ts = takes-none x (I64 ∷ ts)
 takes-above x Comptime ts = takes-none x (I64 ∷ ts)
 
-takes-in_range : (x : Context) (to : IntTy) (ts : List ValType) → PanicStateIsTyped x.module_ → Takes x (in_range to) (I64 ∷ ts) ts
+pub takes-in_range : (x : Context) (to : IntTy) (ts : List ValType) → PanicStateIsTyped x.module_ → Takes x (in_range to) (I64 ∷ ts) ts
 takes-in_range x to ts state =
     takes-then (takes-above x to ts)
     (takes-then (takes-long_const x _ (I64 ∷ ts))
@@ -77,7 +77,7 @@ takes-exact x o left right to s ts h state =
     (takes-then (takes-in_range x to ts state)
     (takes-then (takes-local_get x (s + 4) I64 ts there) (takes-wrap x ts))))
 
-takes-narrowed : (x : Context) (to : IntTy) (ts : List ValType) → Takes x (narrowed to) (I32 ∷ ts) (I32 ∷ ts)
+pub takes-narrowed : (x : Context) (to : IntTy) (ts : List ValType) → Takes x (narrowed to) (I32 ∷ ts) (I32 ∷ ts)
 takes-narrowed x (Sized true count) ts =
     takes-then (takes-i32_const x _ (I32 ∷ ts)) (takes-then (takes-word x Add ts)
     (takes-then (takes-i32_const x _ (I32 ∷ ts)) (takes-then (takes-word x And ts)
@@ -85,7 +85,7 @@ takes-narrowed x (Sized true count) ts =
 takes-narrowed x (Sized false count) ts = takes-then (takes-i32_const x _ (I32 ∷ ts)) (takes-word x And ts)
 takes-narrowed x Comptime ts = takes-none x (I32 ∷ ts)
 
-takes-if_narrower : (b : Bool) (x : Context) (to : IntTy) (ts : List ValType) → Takes x (if b then narrowed to else []) (I32 ∷ ts) (I32 ∷ ts)
+pub takes-if_narrower : (b : Bool) (x : Context) (to : IntTy) (ts : List ValType) → Takes x (if b then narrowed to else []) (I32 ∷ ts) (I32 ∷ ts)
 takes-if_narrower true x to ts = takes-narrowed x to ts
 takes-if_narrower false x to ts = takes-none x (I32 ∷ ts)
 

@@ -1,17 +1,17 @@
 -- The code of each operator that is served is right wherever it stands.
-use Rattle.std.proofs.Common.{◌≡◌, ℕ, ℤ, ◌+ℤ◌, ◌-ℤ◌, ◌*ℤ◌, Bool, true, false, List, [], ◌∷◌, ◌++◌, Ok, inl, inr, refl, sym, subst}
+use Rattle.std.proofs.Common.{◌≡◌, ℕ, ℤ, ◌+ℤ◌, ◌-ℤ◌, ◌*ℤ◌, Bool, true, false, List, ◌∷◌, refl, sym, subst}
 use Rattle.std.specs.Prelude.{if◌then◌else◌}
-use Rattle.zw_num.specs.Arithmetic.{IsIn, exact, wrapped}
+use Rattle.zw_num.specs.Arithmetic.{IsIn, exact}
 use Rattle.zw_num.specs.declared.int_ty.IntTy.{IntTy}
 use Rattle.zw_num.specs.declared.op.TheConstants.{ADD, SUB, MUL, ADD_WRAP, SUB_WRAP, MUL_WRAP}
 use Rattle.zw_safety.proofs.CheckedTypes.{add-checked, sub-checked}
-use Rattle.zw_safety.proofs.NarrowRuns.{Operation, EndsOn, addition, subtraction, multiplication, exact-ends, wrapped-ends}
+use Rattle.zw_safety.proofs.NarrowRuns.{EndsOn, addition, subtraction, multiplication, exact-ends, wrapped-ends}
 use Rattle.zw_safety.proofs.NarrowTypes.{type-narrow, takes-exact, takes-wrapped, exact-closed, wrapped-closed}
 use Rattle.zw_safety.proofs.WordRuns.{word_sum-ends, word_difference-ends, on_u32}
 use Rattle.zw_safety.specs.Checked.{HasPanicState, HasScratch, PanicStateIsTyped, ScratchIsTyped}
 use Rattle.zw_safety.specs.Code.{add_code, sub_code}
-use Rattle.zw_safety.specs.NarrowCode.{are_u32, exact_code, sum_code, difference_code, wrapped_code, operator_code}
-use Rattle.zw_safety.specs.Operators.{IsNarrow, IsServed, IsRight, type_of}
+use Rattle.zw_safety.specs.NarrowCode.{are_u32, exact_code, sum_code, difference_code, wrapped_code}
+use Rattle.zw_safety.specs.Operators.{IsNarrow, IsRight, type_of}
 use Rattle.zw_wasm.specs.declared.module.BinaryOperator.{BinaryOperator}
 use Rattle.zw_wasm.specs.declared.module.BinaryOperator.TheVariants.{Add, Sub, Mul}
 use Rattle.zw_wasm.specs.declared.module.Instr.{Instr}
@@ -67,21 +67,21 @@ difference-closed_for : (t : Bool) (s : ℕ) (left right to : IntTy) → IsClose
 difference-closed_for true s left right to = (sub-checked s).closed
 difference-closed_for false s left right to = exact-closed Sub left right to s
 
-sum-right : (left right to : IntTy) (s : ℕ) → AreNarrow left right to → IsRight ADD left right to s (sum_code left right to s)
+pub sum-right : (left right to : IntTy) (s : ℕ) → AreNarrow left right to → IsRight ADD left right to s (sum_code left right to s)
 sum-right left right to s h = record {
   ends = λ m v c a b os rest il ir scratch state. sum-ends_for (are_u32 left right to) m v c s left right to a b os rest h refl il ir (scratch refl) state;
   typed = λ x ts scratch state. narrow-takes x (sum_code left right to s) ts left right to h (sum-takes_for (are_u32 left right to) x s left right to ts (scratch refl) state);
   closed = sum-closed_for (are_u32 left right to) s left right to;
 }
 
-difference-right : (left right to : IntTy) (s : ℕ) → AreNarrow left right to → IsRight SUB left right to s (difference_code left right to s)
+pub difference-right : (left right to : IntTy) (s : ℕ) → AreNarrow left right to → IsRight SUB left right to s (difference_code left right to s)
 difference-right left right to s h = record {
   ends = λ m v c a b os rest il ir scratch state. difference-ends_for (are_u32 left right to) m v c s left right to a b os rest h refl il ir (scratch refl) state;
   typed = λ x ts scratch state. narrow-takes x (difference_code left right to s) ts left right to h (difference-takes_for (are_u32 left right to) x s left right to ts (scratch refl) state);
   closed = difference-closed_for (are_u32 left right to) s left right to;
 }
 
-product-right : (left right to : IntTy) (s : ℕ) → AreNarrow left right to → IsRight MUL left right to s (exact_code Mul left right to s)
+pub product-right : (left right to : IntTy) (s : ℕ) → AreNarrow left right to → IsRight MUL left right to s (exact_code Mul left right to s)
 product-right left right to s h = record {
   ends = λ m v c a b os rest il ir scratch state. exact-ends m v c Mul (λ a b. a *ℤ b) s left right to a b os rest multiplication h.left_narrow h.right_narrow h.to_narrow il ir (scratch refl) state;
   typed = λ x ts scratch state. narrow-takes x (exact_code Mul left right to s) ts left right to h (takes-exact x Mul left right to s ts (scratch refl) state);
@@ -93,45 +93,23 @@ product-right left right to s h = record {
 wrapped-typed : (x : Context) (ts : List ValType) (o : BinaryOperator) (left right to : IntTy) → AreNarrow left right to → Takes x (wrapped_code o to) (type_of right ∷ type_of left ∷ ts) (type_of to ∷ ts)
 wrapped-typed x ts o left right to h = narrow-takes x (wrapped_code o to) ts left right to h (takes-wrapped x o to ts)
 
-sum_wrap-right : (left right to : IntTy) (s : ℕ) → AreNarrow left right to → IsRight ADD_WRAP left right to s (wrapped_code Add to)
+pub sum_wrap-right : (left right to : IntTy) (s : ℕ) → AreNarrow left right to → IsRight ADD_WRAP left right to s (wrapped_code Add to)
 sum_wrap-right left right to s h = record {
   ends = λ m v c a b os rest il ir scratch state. wrapped-ends m v c Add (λ a b. a +ℤ b) s left right to a b os rest addition h.left_narrow h.right_narrow h.to_narrow;
   typed = λ x ts scratch state. wrapped-typed x ts Add left right to h;
   closed = wrapped-closed Add to;
 }
 
-difference_wrap-right : (left right to : IntTy) (s : ℕ) → AreNarrow left right to → IsRight SUB_WRAP left right to s (wrapped_code Sub to)
+pub difference_wrap-right : (left right to : IntTy) (s : ℕ) → AreNarrow left right to → IsRight SUB_WRAP left right to s (wrapped_code Sub to)
 difference_wrap-right left right to s h = record {
   ends = λ m v c a b os rest il ir scratch state. wrapped-ends m v c Sub (λ a b. a -ℤ b) s left right to a b os rest subtraction h.left_narrow h.right_narrow h.to_narrow;
   typed = λ x ts scratch state. wrapped-typed x ts Sub left right to h;
   closed = wrapped-closed Sub to;
 }
 
-product_wrap-right : (left right to : IntTy) (s : ℕ) → AreNarrow left right to → IsRight MUL_WRAP left right to s (wrapped_code Mul to)
+pub product_wrap-right : (left right to : IntTy) (s : ℕ) → AreNarrow left right to → IsRight MUL_WRAP left right to s (wrapped_code Mul to)
 product_wrap-right left right to s h = record {
   ends = λ m v c a b os rest il ir scratch state. wrapped-ends m v c Mul (λ a b. a *ℤ b) s left right to a b os rest multiplication h.left_narrow h.right_narrow h.to_narrow;
   typed = λ x ts scratch state. wrapped-typed x ts Mul left right to h;
   closed = wrapped-closed Mul to;
 }
-
--- each operator that is served
-pub served_right : (op s : ℕ) (left right to : IntTy) → IsServed op left right to → IsRight op left right to s (operator_code op left right to s)
-served_right op s left right to served =
-    let P : ℕ → Type 0 = λ n. IsRight n left right to s (operator_code n left right to s) in
-    let h : AreNarrow left right to = record { left_narrow = served.left_narrow; right_narrow = served.right_narrow; to_narrow = served.to_narrow } in
-    elim served.operator [
-      | inl e ↦ subst P (sym e) (sum-right left right to s h)
-      | inr d ↦ elim d [
-        | inl e ↦ subst P (sym e) (difference-right left right to s h)
-        | inr d ↦ elim d [
-          | inl e ↦ subst P (sym e) (product-right left right to s h)
-          | inr d ↦ elim d [
-            | inl e ↦ subst P (sym e) (sum_wrap-right left right to s h)
-            | inr d ↦ elim d [
-              | inl e ↦ subst P (sym e) (difference_wrap-right left right to s h)
-              | inr e ↦ subst P (sym e) (product_wrap-right left right to s h)
-            ]
-          ]
-        ]
-      ]
-    ]

@@ -1,5 +1,5 @@
 -- What the code of a panic does.
-use Rattle.std.proofs.Common.{◌≡◌, ℕ, pos, ◌<◌, List, [], ◌∷◌, ◌++◌, length, None, refl, arith}
+use Rattle.std.proofs.Common.{ℕ, pos, ◌<◌, List, [], ◌∷◌, ◌++◌, length, None, refl, arith}
 use Rattle.std.specs.Prelude.{slice_set}
 use Rattle.std.proofs.lemmas.List.{length-set}
 use Rattle.zw_safety.specs.Checked.{HasPanicState, panicked}

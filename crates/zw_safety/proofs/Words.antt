@@ -1,6 +1,6 @@
 -- Numbers and their bits in 32 and 64: sums, differences and products of bits, wider and narrower ones, and the test that a
 -- number is a value of a type.
-use Rattle.std.proofs.Common.{◌≡◌, ℕ, suc, ◌+◌, ◌-◌, ◌*◌, ◌/◌, ◌%◌, ◌^◌, ◌<◌, ◌≤◌, ℤ, pos, negsuc, ◌+ℤ◌, ◌-ℤ◌, ◌*ℤ◌, ◌≤ℤ◌, neg_ℤ, Bool, true, false, not, refl, sym, ap, subst, ◌∙◌, arith, FitsSigned}
+use Rattle.std.proofs.Common.{◌≡◌, ℕ, suc, ◌+◌, ◌-◌, ◌*◌, ◌/◌, ◌%◌, ◌^◌, ◌<◌, ◌≤◌, ℤ, pos, negsuc, ◌+ℤ◌, ◌-ℤ◌, ◌*ℤ◌, ◌≤ℤ◌, neg_ℤ, Bool, true, false, not, refl, sym, ap, ◌∙◌, arith, FitsSigned}
 use Rattle.std.specs.Prelude.{nat_lt, int_le, ◌&&◌, bit_and, unsigned_abs}
 use Rattle.std.proofs.lemmas.Int.{ints, int_wrap_fits, of_z-to_z, wrapping_add-bits, wrapping_sub-bits, wrapping_mul-bits, int_wrap-add_left, int_wrap-add_right, int_wrap-sub_right, int_wrap-mul_left, int_wrap-mul_right}
 use Rattle.std.proofs.lemmas.Nat.{pow_pos, and_mask}
@@ -18,11 +18,11 @@ wrap_bits : (w : Width) (z : ℤ) → cast_unsigned w (int_wrap w z) ≡ pattern
 unfolding int_wrap
 wrap_bits w z = of_z-to_z w (pattern (bits w) z) (pattern_below (bits w) z)
 
-read_bits : (w : Width) (z : ℤ) → cast_signed w (pattern (bits w) z) ≡ int_wrap w z
+pub read_bits : (w : Width) (z : ℤ) → cast_signed w (pattern (bits w) z) ≡ int_wrap w z
 unfolding int_wrap
 read_bits w z = refl
 
-from_wrap : (w : Width) (n : ℕ) (z : ℤ) → n < 2 ^ bits w → cast_signed w n ≡ int_wrap w z → n ≡ pattern (bits w) z
+pub from_wrap : (w : Width) (n : ℕ) (z : ℤ) → n < 2 ^ bits w → cast_signed w n ≡ int_wrap w z → n ≡ pattern (bits w) z
 from_wrap w n z h e = sym (of_z-to_z w n h) ∙ ap (cast_unsigned w) e ∙ wrap_bits w z
 
 reduced_below : (w : Width) (n : ℕ) → n % 2 ^ bits w < 2 ^ bits w
@@ -71,7 +71,7 @@ word-narrow Comptime z h i = absurd h
 read_signed : (z : ℤ) → FitsSigned w32 z → cast_signed w32 (pattern 32 z) ≡ z
 read_signed z h = read_bits w32 z ∙ int_wrap_fits w32 z h
 
-fits_signed : (count : ℕ) (z : ℤ) → count ≤ 32 → IsIn (Sized true count) z → FitsSigned w32 z
+pub fits_signed : (count : ℕ) (z : ℤ) → count ≤ 32 → IsIn (Sized true count) z → FitsSigned w32 z
 fits_signed count (pos n) h i = let few : 2 ^ count ≤ 2 ^ 32 = pow-le-pow_right {n = 2} (omega arith) h in record { sfits = omega (arith, ints, i.at_most) }
 fits_signed count (negsuc n) h i = let few : 2 ^ count ≤ 2 ^ 32 = pow-le-pow_right {n = 2} (omega arith) h in record { sfits = omega (arith, ints, i.at_least) }
 
@@ -127,7 +127,7 @@ far_bits : (y : ℤ) (top : ℕ) → top < 2 ^ 32 → neg_ℤ (pos (2 ^ 63)) ≤
 far_bits (pos n) top h low high = let same : n % 2 ^ 64 ≡ n = omega (arith, ints, high) in grind (arith, ints, same)
 far_bits (negsuc n) top h low high = let far : 2 ^ 63 ≤ 2 ^ 64 - 1 - n % 2 ^ 64 = omega (arith, ints, low) in grind (arith, ints, far)
 
-in_shifted : (signed : Bool) (count : ℕ) (z : ℤ) → (int_le (pos 0) (z -ℤ least (Sized signed count)) && int_le (z -ℤ least (Sized signed count)) (pos (2 ^ count - 1))) ≡ is_in (Sized signed count) z
+pub in_shifted : (signed : Bool) (count : ℕ) (z : ℤ) → (int_le (pos 0) (z -ℤ least (Sized signed count)) && int_le (z -ℤ least (Sized signed count)) (pos (2 ^ count - 1))) ≡ is_in (Sized signed count) z
 in_shifted false count z = let some = pow_pos count in grind (arith, ints, some)
 in_shifted true count z = let some = pow_pos count in grind (arith, ints, some)
 
@@ -146,22 +146,22 @@ tells_range signed count z h k =
 
 -- ---- the value of a type with the lowest bits of a number
 
-pattern_is : (count : ℕ) (z : ℤ) → int_rem_euclid z (pos (2 ^ count)) ≡ pos (pattern count z)
+pub pattern_is : (count : ℕ) (z : ℤ) → int_rem_euclid z (pos (2 ^ count)) ≡ pos (pattern count z)
 pattern_is count (pos n) = refl
 pattern_is count (negsuc n) = refl
 
 in_low : (count n : ℕ) → n < 2 ^ count → IsIn (Sized false count) (pos n)
 in_low count n h = record { at_least = omega (arith, ints); at_most = omega (arith, ints) }
 
-low_of : (count : ℕ) (z : ℤ) → pos (pattern count z) ≡ wrapped (Sized false count) z
+pub low_of : (count : ℕ) (z : ℤ) → pos (pattern count z) ≡ wrapped (Sized false count) z
 low_of count z =
     from_pattern (Sized false count) tt z (pattern count z) refl (test_from_in (Sized false count) (pos (pattern count z)) (in_low count (pattern count z) (pattern_below count z)))
 
-same_bits : (count : ℕ) (y z : ℤ) → wrapped (Sized false count) y ≡ wrapped (Sized false count) z → pattern count y ≡ pattern count z
+pub same_bits : (count : ℕ) (y z : ℤ) → wrapped (Sized false count) y ≡ wrapped (Sized false count) z → pattern count y ≡ pattern count z
 same_bits count y z e = ap unsigned_abs (low_of count y ∙ e ∙ sym (low_of count z))
 
 -- fewer bits of the bits
-lower_bits : (count wide : ℕ) (z : ℤ) → count ≤ wide → pattern wide z % 2 ^ count ≡ pattern count z
+pub lower_bits : (count wide : ℕ) (z : ℤ) → count ≤ wide → pattern wide z % 2 ^ count ≡ pattern count z
 lower_bits count wide z h =
     same_bits count (pos (pattern wide z)) z (ap (wrapped (Sized false count)) (low_of wide z) ∙ wrapped_within false false count wide z h)
 
@@ -169,7 +169,7 @@ lower_bits count wide z h =
 pub wrapped_word : (signed : Bool) (z : ℤ) → pattern 32 (wrapped (Sized signed 32) z) ≡ pattern 32 z
 wrapped_word signed z = same_bits 32 (wrapped (Sized signed 32) z) z (wrapped_within false signed 32 32 z (omega arith))
 
-power_word : (count : ℕ) → count ≤ 32 → 2 ^ count ≤ 2 ^ 32
+pub power_word : (count : ℕ) → count ≤ 32 → 2 ^ count ≤ 2 ^ 32
 power_word count h = pow-le-pow_right {n = 2} (omega arith) h
 
 low_word : (count : ℕ) (z : ℤ) → count ≤ 32 → pattern 32 (pos (pattern count z)) ≡ pattern count z
@@ -188,7 +188,7 @@ half_long : (count : ℕ) → count ≤ 32 → 2 ^ count / 2 ≡ pattern 64 (pos
 half_long count h = let few = power_word count h in omega (arith, few)
 
 -- from the least value on
-up_from : (count : ℕ) (z : ℤ) → z +ℤ pos (2 ^ count / 2) ≡ z -ℤ least (Sized true count)
+pub up_from : (count : ℕ) (z : ℤ) → z +ℤ pos (2 ^ count / 2) ≡ z -ℤ least (Sized true count)
 up_from count z = omega (arith, ints)
 
 pub lift_word : (count : ℕ) (z : ℤ) → count ≤ 32 → (pattern 32 z + 2 ^ count / 2) % 2 ^ 32 ≡ pattern 32 (z -ℤ least (Sized true count))

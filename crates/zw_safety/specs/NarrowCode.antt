@@ -3,11 +3,10 @@ use Rattle.std.specs.Prelude.{ℕ, ℤ, pos, ◌+◌, ◌-◌, ◌/◌, ◌^◌,
 use Rattle.zw_num.specs.Arithmetic.{width}
 use Rattle.zw_num.specs.declared.int_ty.IntTy.{IntTy}
 use Rattle.zw_num.specs.declared.int_ty.IntTy.TheVariants.{Sized, Comptime}
-use Rattle.zw_num.specs.declared.op.TheConstants.{ADD, SUB, MUL, ADD_WRAP, SUB_WRAP}
 use Rattle.zw_safety.specs.Code.{add_code, sub_code, if_panics}
 use Rattle.zw_session.specs.Causes.{integer_overflow}
 use Rattle.zw_wasm.specs.declared.module.BinaryOperator.{BinaryOperator}
-use Rattle.zw_wasm.specs.declared.module.BinaryOperator.TheVariants.{Add, Sub, Mul, And}
+use Rattle.zw_wasm.specs.declared.module.BinaryOperator.TheVariants.{Add, Sub, And}
 use Rattle.zw_wasm.specs.declared.module.Comparison.TheVariants.{GtU}
 use Rattle.zw_wasm.specs.declared.module.Conversion.{Conversion}
 use Rattle.zw_wasm.specs.declared.module.Conversion.TheVariants.{Wrap, ExtendS, ExtendU}
@@ -62,9 +61,12 @@ narrowed (Sized true bits) = lifted (pos (2 ^ bits / 2)) (pos (2 ^ bits - 1))
 narrowed (Sized false bits) = masked (pos (2 ^ bits - 1))
 narrowed Comptime = []
 
--- a number of 32 bits is a value of each type of so many bits as it stands
+-- the same, where a number of 32 bits isn't a value of the type as it stands
+abbrev pub fitted : IntTy → List Instr
+fitted to = if nat_lt (width to) 32 then narrowed to else []
+
 abbrev pub wrapped_code : BinaryOperator → IntTy → List Instr
-wrapped_code operator to = Binary I32 operator ∷ (if nat_lt (width to) 32 then narrowed to else [])
+wrapped_code operator to = Binary I32 operator ∷ fitted to
 
 -- all three types are `u32`, where the result is tested in 32 bits
 abbrev pub is_u32 : IntTy → Bool
@@ -80,13 +82,3 @@ sum_code left right to scratch = if are_u32 left right to then add_code scratch 
 
 abbrev pub difference_code : IntTy → IntTy → IntTy → ℕ → List Instr
 difference_code left right to scratch = if are_u32 left right to then sub_code scratch else exact_code Sub left right to scratch
-
-abbrev pub wrapping_code : ℕ → IntTy → List Instr
-wrapping_code op to =
-    if nat_eq op ADD_WRAP then wrapped_code Add to else (if nat_eq op SUB_WRAP then wrapped_code Sub to else wrapped_code Mul to)
-
-abbrev pub operator_code : ℕ → IntTy → IntTy → IntTy → ℕ → List Instr
-operator_code op left right to scratch =
-    if nat_eq op ADD then sum_code left right to scratch
-    else (if nat_eq op SUB then difference_code left right to scratch
-    else (if nat_eq op MUL then exact_code Mul left right to scratch else wrapping_code op to))

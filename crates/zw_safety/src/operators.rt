@@ -1,26 +1,45 @@
 // The code of checked operators.
-ghost use Rattle.std.specs.Prelude.{◌≡◌, ◌≤◌, ◌-◌, ◌/◌, ◌^◌, ◌++◌, pos, OnOk};
+ghost use Rattle.std.specs.Prelude.{◌≡◌, ◌⊎◌, ◌≤◌, ◌-◌, ◌/◌, ◌^◌, ◌++◌, pos, OnOk};
 ghost use Rattle.zw_num.specs.Arithmetic.{width};
 ghost use Rattle.zw_safety.specs.Code.{add_code, sub_code, kept, less, if_panics};
-ghost use Rattle.zw_safety.specs.NarrowCode.{extension, above_least, extended, in_range, exact_code, narrowed, lifted, masked, moved, wrapped_code, wrapping_code, is_u32, sum_code, difference_code, operator_code};
-ghost use Rattle.zw_safety.specs.Operators.{IsNarrow, IsServed, IsRight};
+ghost use Rattle.zw_safety.specs.NarrowCode.{extension, above_least, extended, in_range, exact_code, narrowed, lifted, masked, moved, wrapped_code, fitted, is_u32, sum_code, difference_code};
+ghost use Rattle.zw_safety.specs.OperatorCode.{word_code, not_code, code_of_counts, code_of_one, code_of_bounds, code_of_order, code_of_shares, operator_code};
+ghost use Rattle.zw_safety.specs.Operators.{IsNarrow, IsServed, IsServedWide, IsRightCode};
+ghost use Rattle.zw_safety.specs.WideCode.{stored_code};
 ghost use Rattle.zw_num.specs.declared.int_ty.IntTy.TheVariants.{Sized};
 
+use crate::casts::{
+    push_cast, push_distance, push_negated_wrapped, push_opposite, push_truncated, push_turned,
+};
+use crate::compare::{push_choice, push_comparison};
+use crate::counts::{push_leading, push_ones, push_trailing};
+use crate::division::{push_floor, push_modulo, push_quotient, push_rest};
+use crate::saturating::{push_saturated, push_saturated_product};
+use crate::shifts::{push_left, push_right};
+use crate::wide::{goes_wide, push_wide};
 use std::alloc::{AllocError, Global};
 use zw_num::IntTy;
-use zw_num::op::{ADD, ADD_WRAP, MUL, SUB, SUB_WRAP};
+use zw_num::op::{
+    ABS, ADD, ADD_SAT, ADD_WRAP, BIT_AND, BIT_CAST, BIT_NOT, BIT_OR, BIT_XOR, CLZ, CTZ, DIV,
+    DIV_FLOOR, DIV_TRUNC, EQUAL, GREATER, GREATER_OR_EQUAL, INT_CAST, LESS, LESS_OR_EQUAL, MAX,
+    MIN, MOD, MUL, MUL_SAT, MUL_WRAP, NEG, NEG_WRAP, NOT, NOT_EQUAL, POP_COUNT, REM, REM_TRUNC,
+    SHL, SHR, SUB, SUB_SAT, SUB_WRAP, TRUNCATE,
+};
 use zw_wasm::{BinaryOperator, Comparison, Conversion, Instr, ValType};
 
 /// The cause of a panic where the exact result isn't in the type.
-const INTEGER_OVERFLOW: i32 = 1;
+pub const INTEGER_OVERFLOW: u8 = 1;
 
-/// Appends the code of an operator whose operands and result have these types. Served by now are `ADD`, `SUB`, `MUL`,
-/// `ADD_WRAP`, `SUB_WRAP` and `MUL_WRAP` on integer types of at most 32 bits, signed or not; the three types may differ. The
-/// code takes the operands, the right one from the top, and leaves the operator's value (Zig Language Reference 0.13.0,
-/// Operators); or it sets the globals 0 to 2 to the cause of a panic without a message and traps. A value fills its `i32`
-/// with copies of its sign. The code takes at most 128 instructions, and writes no local but the eight from `scratch` on, of
-/// which four are `i32` and the next four `i64`; for `ADD_WRAP` it writes none.
-#[tactic(auto, using(crate::proofs::OperatorsRight::served_right))]
+/// Appends the code of an operator whose operands and result have these types. Served by now are, on integer types of at most 32
+/// bits, signed or not, and on `bool` as `u1`: `+`, `-`, `*`, `+%`, `-%`, `*%`, `+|`, `-|`, `*|`, `/`, `%`, `@divTrunc`, `@divFloor`, `@rem`, `@mod`, `<<`, `>>`, `&`, `|`,
+/// `^`, the comparisons, `@min`, `@max`; and of one operand, which is the left one, `-`, `-%`, `~`, `!`, `@abs`, `@as`,
+/// `@intFromBool`, `@intCast`, `@truncate`, `@bitCast`, `@clz`, `@ctz` and `@popCount`. The three types may differ. The code takes the operands, the right one
+/// from the top, and leaves the operator's value (Zig Language Reference 0.13.0, Operators and Builtin Functions); or it sets the
+/// globals 0 to 2 to the cause of a panic without a message and traps. A value fills its `i32` with copies of its sign. The code
+/// takes at most 128 instructions, and writes no local but the eight from `scratch` on, of which four are `i32` and the next four
+/// `i64`; for `ADD_WRAP` on types of at most 32 bits it writes none. `+`, `-`, `*`, `+%`, `-%` and `*%` are served on integer types of
+/// at most 64 bits, signed or not; there a value of a type of more than 32 bits fills its `i64` in the same way.
+#[tactic(auto, using(crate::proofs::WideRight::left_stays_narrow, crate::proofs::WideRight::stays_narrow))]
 pub fn checked(
     _alloc: Global,
     op: u16,
@@ -30,29 +49,188 @@ pub fn checked(
     scratch: u32,
     out: &mut Vec<Instr>,
 ) -> Result<(), AllocError>
-    requires served { IsServed op left right to }
+    requires served { IsServed op left right to ⊎ IsServedWide op left right to }
     requires scratch { scratch ≤ 4294967287 }
-    ensures code { OnOk result (out.new.items ≡ out.old.items ++ operator_code op left right to scratch) }
-    ensures right { IsRight op left right to scratch (operator_code op left right to scratch) }
+    ensures code { OnOk result (out.new.items ≡ out.old.items ++ stored_code op left right to scratch) }
+    ensures right { IsRightCode op left right to scratch (stored_code op left right to scratch) }
+{
+    if goes_wide(op, left, right, to) {
+        push_wide(op, left, right, to, scratch, out)
+    } else {
+        push_operator(op, left, right, to, scratch, out)
+    }
+}
+
+/// Appends the code of an operator: of sums, differences, products and bits here.
+fn push_operator(
+    op: u16,
+    left: IntTy,
+    right: IntTy,
+    to: IntTy,
+    scratch: u32,
+    out: &mut Vec<Instr>,
+) -> Result<(), AllocError>
+    requires from_narrow { IsNarrow left }
+    requires to_narrow { IsNarrow to }
+    requires scratch { scratch ≤ 4294967287 }
+    ensures { OnOk result (out.new.items ≡ out.old.items ++ operator_code op left right to scratch) }
 {
     match op {
         ADD => push_sum(left, right, to, scratch, out),
         SUB => push_difference(left, right, to, scratch, out),
         MUL => push_exact(BinaryOperator::Mul, left, right, to, scratch, out),
-        _ => push_wrapping(op, to, out),
+        ADD_WRAP => push_wrapped(BinaryOperator::Add, to, out),
+        SUB_WRAP => push_wrapped(BinaryOperator::Sub, to, out),
+        MUL_WRAP => push_wrapped(BinaryOperator::Mul, to, out),
+        BIT_AND => push_word(BinaryOperator::And, out),
+        BIT_OR => push_word(BinaryOperator::Or, out),
+        BIT_XOR => push_word(BinaryOperator::Xor, out),
+        _ => push_bounds(op, left, right, to, scratch, out),
     }
 }
 
-/// Appends the code of `+%`, `-%` or `*%`.
-fn push_wrapping(op: u16, to: IntTy, out: &mut Vec<Instr>) -> Result<(), AllocError>
-    requires narrow { IsNarrow to }
-    ensures { OnOk result (out.new.items ≡ out.old.items ++ wrapping_code op to) }
+/// Appends the code of a sum, difference or product that stops at the bounds of its type.
+fn push_bounds(
+    op: u16,
+    left: IntTy,
+    right: IntTy,
+    to: IntTy,
+    scratch: u32,
+    out: &mut Vec<Instr>,
+) -> Result<(), AllocError>
+    requires from_narrow { IsNarrow left }
+    requires to_narrow { IsNarrow to }
+    requires scratch { scratch ≤ 4294967287 }
+    ensures { OnOk result (out.new.items ≡ out.old.items ++ code_of_bounds op left right to scratch) }
 {
     match op {
-        ADD_WRAP => push_wrapped(BinaryOperator::Add, to, out),
-        SUB_WRAP => push_wrapped(BinaryOperator::Sub, to, out),
-        _ => push_wrapped(BinaryOperator::Mul, to, out),
+        ADD_SAT => push_saturated(BinaryOperator::Add, left, right, to, scratch, out),
+        SUB_SAT => push_saturated(BinaryOperator::Sub, left, right, to, scratch, out),
+        MUL_SAT => push_saturated_product(left, right, to, scratch, out),
+        _ => push_order(op, left, right, to, scratch, out),
     }
+}
+
+/// Appends an operator on 32 bits.
+fn push_word(operator: BinaryOperator, out: &mut Vec<Instr>) -> Result<(), AllocError>
+    ensures { OnOk result (out.new.items ≡ out.old.items ++ word_code operator) }
+{
+    out.push(Instr::Binary(ValType::I32, operator))?;
+    Ok(())
+}
+
+/// Appends the code of a comparison, or of the lesser or the greater of two.
+fn push_order(
+    op: u16,
+    left: IntTy,
+    right: IntTy,
+    to: IntTy,
+    scratch: u32,
+    out: &mut Vec<Instr>,
+) -> Result<(), AllocError>
+    requires from_narrow { IsNarrow left }
+    requires to_narrow { IsNarrow to }
+    requires scratch { scratch ≤ 4294967287 }
+    ensures { OnOk result (out.new.items ≡ out.old.items ++ code_of_order op left right to scratch) }
+{
+    match op {
+        EQUAL => push_comparison(Comparison::Eq, Comparison::Eq, left, right, scratch, out),
+        NOT_EQUAL => push_comparison(Comparison::Ne, Comparison::Ne, left, right, scratch, out),
+        LESS => push_comparison(Comparison::LtS, Comparison::LtU, left, right, scratch, out),
+        LESS_OR_EQUAL => push_comparison(
+            Comparison::LeS,
+            Comparison::LeU,
+            left,
+            right,
+            scratch,
+            out,
+        ),
+        GREATER => push_comparison(Comparison::GtS, Comparison::GtU, left, right, scratch, out),
+        GREATER_OR_EQUAL => push_comparison(
+            Comparison::GeS,
+            Comparison::GeU,
+            left,
+            right,
+            scratch,
+            out,
+        ),
+        MIN => push_choice(Comparison::LtS, Comparison::LtU, left, right, scratch, out),
+        MAX => push_choice(Comparison::GtS, Comparison::GtU, left, right, scratch, out),
+        _ => push_shares(op, left, right, to, scratch, out),
+    }
+}
+
+/// Appends the code of a shift, a quotient or a rest.
+fn push_shares(
+    op: u16,
+    left: IntTy,
+    right: IntTy,
+    to: IntTy,
+    scratch: u32,
+    out: &mut Vec<Instr>,
+) -> Result<(), AllocError>
+    requires from_narrow { IsNarrow left }
+    requires to_narrow { IsNarrow to }
+    requires scratch { scratch ≤ 4294967287 }
+    ensures { OnOk result (out.new.items ≡ out.old.items ++ code_of_shares op left right to scratch) }
+{
+    match op {
+        SHL => push_left(right, to, scratch, out),
+        SHR => push_right(left, right, to, scratch, out),
+        DIV => push_quotient(left, right, to, scratch, out),
+        REM => push_rest(left, right, scratch, out),
+        DIV_TRUNC => push_quotient(left, right, to, scratch, out),
+        REM_TRUNC => push_rest(left, right, scratch, out),
+        MOD => push_modulo(left, right, scratch, out),
+        DIV_FLOOR => push_floor(left, right, to, scratch, out),
+        _ => push_of_one(op, left, to, scratch, out),
+    }
+}
+
+/// Appends the code of an operator of one operand.
+fn push_of_one(
+    op: u16,
+    from: IntTy,
+    to: IntTy,
+    scratch: u32,
+    out: &mut Vec<Instr>,
+) -> Result<(), AllocError>
+    requires from_narrow { IsNarrow from }
+    requires to_narrow { IsNarrow to }
+    requires scratch { scratch ≤ 4294967287 }
+    ensures { OnOk result (out.new.items ≡ out.old.items ++ code_of_one op from to scratch) }
+{
+    match op {
+        NEG => push_opposite(from, to, scratch, out),
+        BIT_NOT => push_turned(to, out),
+        NEG_WRAP => push_negated_wrapped(to, out),
+        NOT => push_is_zero(out),
+        ABS => push_distance(from, scratch, out),
+        INT_CAST => push_cast(from, to, scratch, out),
+        TRUNCATE => push_truncated(from, to, out),
+        BIT_CAST => push_truncated(from, to, out),
+        _ => push_counts(op, from, scratch, out),
+    }
+}
+
+/// Appends the code of a count of bits.
+fn push_counts(op: u16, from: IntTy, scratch: u32, out: &mut Vec<Instr>) -> Result<(), AllocError>
+    ensures { OnOk result (out.new.items ≡ out.old.items ++ code_of_counts op from scratch) }
+{
+    match op {
+        CLZ => push_leading(from, out),
+        CTZ => push_trailing(from, scratch, out),
+        POP_COUNT => push_ones(from, out),
+        _ => Ok(()),
+    }
+}
+
+/// Appends the test whether an operand is 0.
+fn push_is_zero(out: &mut Vec<Instr>) -> Result<(), AllocError>
+    ensures { OnOk result (out.new.items ≡ out.old.items ++ not_code) }
+{
+    out.push(Instr::IsZero(ValType::I32))?;
+    Ok(())
 }
 
 /// Appends the code of `+`.
@@ -107,7 +285,7 @@ fn is_u32(ty: IntTy) -> bool
 }
 
 /// Appends the code of an operator whose result is exact in 64 bits.
-fn push_exact(
+pub fn push_exact(
     operator: BinaryOperator,
     left: IntTy,
     right: IntTy,
@@ -130,7 +308,7 @@ fn push_exact(
 }
 
 /// Appends code that takes both operands to 64 bits.
-fn push_extended(
+pub fn push_extended(
     left: IntTy,
     right: IntTy,
     scratch: u32,
@@ -147,7 +325,7 @@ fn push_extended(
 }
 
 /// How a value of the type goes from 32 to 64 bits.
-fn extension(ty: IntTy) -> Conversion
+pub fn extension(ty: IntTy) -> Conversion
     ensures { result ≡ extension ty }
 {
     match ty {
@@ -157,7 +335,7 @@ fn extension(ty: IntTy) -> Conversion
 }
 
 /// Appends code that panics where its operand of 64 bits isn't a value of the type.
-fn push_in_range(to: IntTy, out: &mut Vec<Instr>) -> Result<(), AllocError>
+pub fn push_in_range(to: IntTy, out: &mut Vec<Instr>) -> Result<(), AllocError>
     requires narrow { IsNarrow to }
     ensures { OnOk result (out.new.items ≡ out.old.items ++ in_range to) }
 {
@@ -207,6 +385,14 @@ fn push_wrapped(operator: BinaryOperator, to: IntTy, out: &mut Vec<Instr>) -> Re
     ensures { OnOk result (out.new.items ≡ out.old.items ++ wrapped_code operator to) }
 {
     out.push(Instr::Binary(ValType::I32, operator))?;
+    push_fitted(to, out)
+}
+
+/// Appends code that leaves the value of the type with the lowest bits of its operand.
+pub fn push_fitted(to: IntTy, out: &mut Vec<Instr>) -> Result<(), AllocError>
+    requires narrow { IsNarrow to }
+    ensures { OnOk result (out.new.items ≡ out.old.items ++ fitted to) }
+{
     match to {
         IntTy::Sized { signed, bits } if bits < 32 => push_narrowed(signed, bits, out),
         _ => Ok(()),
@@ -214,7 +400,7 @@ fn push_wrapped(operator: BinaryOperator, to: IntTy, out: &mut Vec<Instr>) -> Re
 }
 
 /// Appends code that leaves the value of a type of so many bits with the lowest bits of its operand.
-fn push_narrowed(signed: bool, bits: u8, out: &mut Vec<Instr>) -> Result<(), AllocError>
+pub fn push_narrowed(signed: bool, bits: u8, out: &mut Vec<Instr>) -> Result<(), AllocError>
     requires { bits ≤ 31 }
     ensures { OnOk result (out.new.items ≡ out.old.items ++ narrowed (Sized signed bits)) }
 {
@@ -254,7 +440,7 @@ fn push_masked(mask: i32, out: &mut Vec<Instr>) -> Result<(), AllocError>
 }
 
 /// Half of a power of two.
-fn half_power(bits: u8) -> i32
+pub fn half_power(bits: u8) -> i32
     requires { bits ≤ 31 }
     ensures { result ≡ pos (2 ^ bits / 2) }
 {
@@ -262,7 +448,7 @@ fn half_power(bits: u8) -> i32
 }
 
 /// So many bits that are 1.
-fn mask(bits: u8) -> i32
+pub fn mask(bits: u8) -> i32
     requires { bits ≤ 31 }
     ensures { result ≡ pos (2 ^ bits - 1) }
 {
@@ -320,12 +506,11 @@ fn push_less(local: u32, other: u32, out: &mut Vec<Instr>) -> Result<(), AllocEr
 }
 
 /// Appends code that panics with this cause and no message where its operand isn't 0.
-fn push_if_panics(cause: i32, out: &mut Vec<Instr>) -> Result<(), AllocError>
-    requires { cause ≡ pos 1 }
-    ensures { OnOk result (out.new.items ≡ out.old.items ++ if_panics 1) }
+pub fn push_if_panics(cause: u8, out: &mut Vec<Instr>) -> Result<(), AllocError>
+    ensures { OnOk result (out.new.items ≡ out.old.items ++ if_panics cause) }
 {
     out.push(Instr::If(None))?;
-    out.push(Instr::I32Const(cause))?;
+    out.push(Instr::I32Const(i32::from(cause)))?;
     out.push(Instr::GlobalSet(0))?;
     out.push(Instr::I32Const(0))?;
     out.push(Instr::GlobalSet(1))?;

@@ -1,4 +1,4 @@
-use Rattle.std.proofs.Common.{◌≡◌, ℤ, List, ◌++◌, ap, ◌∙◌, subst, append_assoc}
+use Rattle.std.proofs.Common.{◌≡◌, ℤ, List, ◌++◌, ap, ◌∙◌, append_assoc}
 use Rattle.std.proofs.Math.Facts.{to_z-of_z}
 use Rattle.zw_safety.specs.NarrowCode.{lifted, masked, moved}
 use Rattle.zw_wasm.specs.declared.module.BinaryOperator.TheVariants.{Add, Sub}
