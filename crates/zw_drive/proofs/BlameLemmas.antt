@@ -14,17 +14,17 @@ use Rattle.zw_drive.specs.declared.status.Status.TheVariants as statuses
 abbrev pub OneOf : ℕ → ℕ → Type 0
 OneOf own status = (status ≡ own) ⊎ (status ≡ 10) ⊎ (status ≡ 11)
 
-said_code : (own : Status) (line : List ℕ) (before after : Option (List ℕ)) (status : Status) → Says own line before after status → OneOf (code_of own) (code_of status)
+pub said_code : (own : Status) (line : List ℕ) (before after : Option (List ℕ)) (status : Status) → Says own line before after status → OneOf (code_of own) (code_of status)
 said_code own line before after status says =
     elim says.ends [ inl h ↦ inl (ap code_of h.1) | inr h ↦ elim h.1 [ inl e ↦ inr (inl (ap code_of e)) | inr e ↦ inr (inr (ap code_of e)) ] ]
 
 -- an object whose count stayed
-unblamed : (before now status code : ℕ) → now ≡ before → (status ≡ code → ⊥) → IsBlamed before now status code (10 ∷ 11 ∷ [])
+pub unblamed : (before now status code : ℕ) → now ≡ before → (status ≡ code → ⊥) → IsBlamed before now status code (10 ∷ 11 ∷ [])
 unblamed before now status code same other =
     record { not_fallen = omega arith; cause = λ e. absurd (other e); told = λ h. absurd (omega arith) }
 
 -- an object that failed
-blamed : (before now status code : ℕ) → Counts before now true → OneOf code status → IsBlamed before now status code (10 ∷ 11 ∷ [])
+pub blamed : (before now status code : ℕ) → Counts before now true → OneOf code status → IsBlamed before now status code (10 ∷ 11 ∷ [])
 blamed before now status code rose one = record {
   not_fallen = rose.not_fallen;
   cause = λ e. rose;
@@ -32,7 +32,7 @@ blamed before now status code rose one = record {
 }
 
 -- a status that is one of three is no fourth
-no_fourth : (own status code : ℕ) → OneOf own status → (own ≡ code → ⊥) → (10 ≡ code → ⊥) → (11 ≡ code → ⊥) → status ≡ code → ⊥
+pub no_fourth : (own status code : ℕ) → OneOf own status → (own ≡ code → ⊥) → (10 ≡ code → ⊥) → (11 ≡ code → ⊥) → status ≡ code → ⊥
 no_fourth own status code one a b c e = elim one [ inl h ↦ a (sym h ∙ e) | inr o ↦ elim o [ inl h ↦ b (sym h ∙ e) | inr h ↦ c (sym h ∙ e) ] ]
 
 -- the tree

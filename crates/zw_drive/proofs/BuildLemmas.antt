@@ -1,5 +1,5 @@
 -- Building a tree ends as its parts end.
-use Rattle.std.proofs.Common.{◌≡◌, ℕ, ◌≤◌, Bool, true, List, [], ◌∷◌, Option, Some, None, Result, Ok, Err, refl, sym, ◌∙◌, ap, subst, inl, inr, nat_eq, codes, MatchBool, lit≤, length}
+use Rattle.std.proofs.Common.{◌≡◌, ◌⊎◌, ℕ, ◌≤◌, Bool, true, List, [], ◌∷◌, Option, Some, None, Result, Ok, Err, refl, sym, ◌∙◌, subst, inl, inr, nat_eq, codes, MatchBool, lit≤, length}
 use Rattle.std.proofs.lemmas.List.{append-nil}
 use Rattle.std.specs.List.{ends_with}
 use Rattle.std.specs.Io.KnownBytes.{Appends}
@@ -9,8 +9,12 @@ use Rattle.zw_base.specs.declared.files.Handed.{Handed}
 use Rattle.zw_base.specs.declared.stop.Stop.{Stop}
 use Rattle.zw_drive.specs.Due.{IsRootDue, IsBuildDue, IsStop}
 use Rattle.zw_form.specs.Form.{IsStopOf}
+use Rattle.zw_form.specs.Members.{Member, IsFirstStop, IsMemberStop, IsWeightStop}
+use Rattle.zw_form.specs.declared.source.Declaration.{Declaration}
+use Rattle.zw_parse.specs.Syntax.{IsSyntaxStop, wrong, nested}
 use Rattle.zw_token.specs.ErrorNumbers.{number_of_error}
 use Rattle.zw_token.specs.declared.token.TextError.{TextError}
+use Rattle.zw_token.specs.declared.token.Token.{Token}
 use Rattle.zw_token.specs.declared.token.TextError.TheVariants.{BadByte, BadToken, BadLiteral, NotInProfile}
 use Rattle.zw_drive.specs.Ends.{Adds, LoadEnds, WritesText, WritesTree}
 use Rattle.zw_drive.specs.Lines.{IsNamed, stop_line}
@@ -55,10 +59,26 @@ error_named BadToken = (lit≤ tt, lit≤ tt)
 error_named BadLiteral = (lit≤ tt, lit≤ tt)
 error_named NotInProfile = (lit≤ tt, lit≤ tt)
 
+-- error 6 and limit 3
+syntax_named : (text : List ℕ) (tokens : List Token) (stop : Stop) → IsSyntaxStop 0 text tokens stop → IsNamed stop.kind
+syntax_named text tokens stop (wrong number file flat is) = subst (λ (s : Stop). IsNamed s.kind) (sym is) (lit≤ tt, lit≤ tt)
+syntax_named text tokens stop (nested number file is) = subst (λ (s : Stop). IsNamed s.kind) (sym is) (lit≤ tt, lit≤ tt)
+
+-- error 36 and limit 5
+member_named : (functions : List Declaration) (m : Member) (stop : Stop) → IsMemberStop functions m stop → IsNamed stop.kind
+member_named functions m stop (inl unkept) = subst (λ (s : Stop). IsNamed s.kind) (sym unkept.1) (lit≤ tt, lit≤ tt)
+member_named functions m stop (inr past) = subst (λ (s : Stop). IsNamed s.kind) (sym past.1.told) (lit≤ tt, lit≤ tt)
+
+-- these, and limit 11
+members_named : (members : List Member) (stop : Stop) → IsFirstStop members stop ⊎ IsWeightStop members stop → IsNamed stop.kind
+members_named members stop (inl first) = member_named _ first.member stop first.stops
+members_named members stop (inr weight) = subst (λ (s : Stop). IsNamed s.kind) (sym weight.told) (lit≤ tt, lit≤ tt)
+
 -- the stop of a text has a name
 stop_named : (text : List ℕ) (stop : Stop) → IsStopOf text stop → IsNamed stop.kind
 stop_named text stop (inl (at, error, stops, is)) = subst (λ (s : Stop). IsNamed s.kind) (sym is) (error_named error)
-stop_named text stop (inr unbuilt) = subst (λ (s : Stop). IsNamed s.kind) (sym unbuilt.is_not_built) (lit≤ tt, lit≤ tt)
+stop_named text stop (inr (inl a)) = syntax_named text a.tokens stop a.stops
+stop_named text stop (inr (inr a)) = members_named _ stop a.stops
 
 -- the text of a root was built
 pub writes_text : (root : List ℕ) (old new : List Handed) (before after : Option (List ℕ)) (text : List ℕ) (result : Result (Unit {0}) BuildErr) → IsZig root → Adds old new root (Bytes text) × (length text ≤ FILE_LIMIT) → WritesText text before after result → WritesTree root old new before after result

@@ -5,13 +5,16 @@ use Rattle.zw_base.specs.declared.files.Answer.{Answer}
 use Rattle.zw_base.specs.declared.files.Answer.TheVariants.{Bytes, Absent, TooLong}
 use Rattle.zw_base.specs.declared.files.Handed.{Handed}
 use Rattle.zw_base.specs.declared.stop.Stop.{Stop}
-use Rattle.zw_drive.specs.Commands.{CommandLine, Build, command_of}
+use Rattle.zw_drive.specs.Commands.{CommandLine, Build, Validate, command_of}
 use Rattle.zw_drive.specs.Due.{IsStop, IsStopDue, IsModule, IsAnswerDue, IsRootDue, IsCommandDue, IsDue}
-use Rattle.zw_drive.specs.Lines.{stop_line}
 use Rattle.zw_drive.specs.Meaning.{Builds}
 use Rattle.zw_drive.specs.Stops.{at_start}
 use Rattle.zw_drive.specs.declared.stops.TheConstants.{IMPORT_PATH, FILE_ABSENT, FILE_LENGTH}
-use Rattle.zw_form.proofs.FormLemmas.{one_stop_of, stop_or_form}
+use Rattle.zw_form.proofs.FormLemmas.{one_stop-of, stop_or_form}
+use Rattle.zw_form.specs.Form.{HasForm, IsStopOf}
+use Rattle.zw_form.specs.Trees.{Tree}
+use Rattle.zw_parse.proofs.SyntaxLemmas.{tree_once, stop_once, tree_not_stop}
+use Rattle.zw_drive.proofs.ValidateDueLemmas.{one_validate}
 
 -- the same status and the same line
 abbrev pub IsSame : ℕ → ℕ → List ℕ → List ℕ → Type 0
@@ -23,16 +26,24 @@ one_stop root stop s t out out' line line' h k = (h.status_is ∙ sym k.status_i
 one_module : (s t : ℕ) (line line' : List ℕ) → IsModule s line → IsModule t line' → IsSame s t line line'
 one_module s t line line' h k = (h.status_is ∙ sym k.status_is, h.line_is ∙ sym k.line_is)
 
+-- a text of the form has no stop
+no_stop : (text : List ℕ) (stop : Stop) (trees : List Tree) → IsStopOf text stop → HasForm text trees → ⊥
+no_stop text = stop_or_form tree_once stop_once tree_not_stop text
+
+-- a text has one stop
+same_stop : (text : List ℕ) (a b : Stop) → IsStopOf text a → IsStopOf text b → a ≡ b
+same_stop text = one_stop-of tree_once stop_once tree_not_stop text
+
 -- a text that is built, or stops
 abbrev pub IsChosen : List ℕ → List ℕ → ℕ → List ℕ → List ℕ → Type 0
 IsChosen root text status out line = (Builds text out × IsModule status line) ⊎ IsStopDue root text status out line
 
 one_text : (root text : List ℕ) (s t : ℕ) (out out' line line' : List ℕ) → IsChosen root text s out line → IsChosen root text t out' line' → IsSame s t line line'
 one_text root text s t out out' line line' (inl h) (inl k) = one_module s t line line' h.1 k.1
-one_text root text s t out out' line line' (inl h) (inr k) = absurd (stop_or_form text k.0 h.0.means.trees k.1 h.0.means.form)
-one_text root text s t out out' line line' (inr h) (inl k) = absurd (stop_or_form text h.0 k.0.means.trees h.1 k.0.means.form)
+one_text root text s t out out' line line' (inl h) (inr k) = absurd (no_stop text k.0 h.0.means.trees k.1 h.0.means.form)
+one_text root text s t out out' line line' (inr h) (inl k) = absurd (no_stop text h.0 k.0.means.trees h.1 k.0.means.form)
 one_text root text s t out out' line line' (inr h) (inr k) =
-    one_stop root h.0 s t out out' line line' h.2 (subst (λ (stop : Stop). IsStop root stop t out' line') (one_stop_of text k.0 h.0 k.1 h.1) k.2)
+    one_stop root h.0 s t out out' line line' h.2 (subst (λ (stop : Stop). IsStop root stop t out' line') (same_stop text k.0 h.0 k.1 h.1) k.2)
 
 one_answer : (root : List ℕ) (answer : Answer) (s t : ℕ) (out out' line line' : List ℕ) → IsAnswerDue root answer s out line → IsAnswerDue root answer t out' line' → IsSame s t line line'
 one_answer root Absent s t out out' line line' h k = one_stop root (at_start FILE_ABSENT) s t out out' line line' h k
@@ -60,6 +71,7 @@ one_command : (asked : Option CommandLine) (files : List Handed) (s t : ℕ) (ou
 one_command None files s t out out' line line' h k = (h.status_is ∙ sym k.status_is, h.line_is ∙ sym k.line_is)
 one_command (Some (Build root)) files s t out out' line line' h k =
     one_build (ends_with nat_eq root (codes ".zig")) root files s t out out' line line' h k
+one_command (Some (Validate file)) files s t out out' line line' h k = one_validate file files s t out out' line line' h k
 
 -- for the same words and files
 pub one_due_lem : (words : List (List ℕ)) (files : List Handed) (s t : ℕ) (out out' line line' : List ℕ) → IsDue words files s out line → IsDue words files t out' line' → IsSame s t line line'

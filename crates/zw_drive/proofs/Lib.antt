@@ -4,4 +4,6 @@ mod CompileLemmas
 mod DueLemmas
 mod ServeLemmas
 mod TextLemmas
+mod ValidateDueLemmas
+mod ValidateLemmas
 pub mod FittingLemmas

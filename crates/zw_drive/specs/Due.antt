@@ -1,6 +1,6 @@
 -- What is due: for the words of a command line and what the tree handed over, the status, the bytes to the output and
 -- the line to the diagnostics. A command is one case, and so is a stop. This project's own.
-use Rattle.std.specs.Prelude.{◌≡◌, ◌⊎◌, ℕ, ◌<◌, ◌≤◌, List, [], ◌∷◌, ◌++◌, Option, Some, None, Contains, true, MatchBool, codes, length, take, nat_eq}
+use Rattle.std.specs.Prelude.{◌≡◌, ◌⊎◌, ℕ, ◌<◌, ◌≤◌, List, [], ◌∷◌, ◌++◌, Option, Some, None, Contains, true, MatchBool, codes, length, nat_eq}
 use Rattle.std.specs.List.{ends_with}
 use Rattle.std.specs.Io.KnownBytes.{Appends}
 use Rattle.zw_base.specs.Faults.{Rose}
@@ -8,10 +8,12 @@ use Rattle.zw_base.specs.declared.files.Answer.{Answer}
 use Rattle.zw_base.specs.declared.files.Answer.TheVariants.{Bytes, Absent, TooLong}
 use Rattle.zw_base.specs.declared.files.Handed.{Handed}
 use Rattle.zw_base.specs.declared.stop.Stop.{Stop}
-use Rattle.zw_drive.specs.Commands.{CommandLine, Build, command_of}
+pub use Rattle.zw_drive.specs.Fronts.{IsFront}
+use Rattle.zw_drive.specs.Commands.{CommandLine, Build, Validate, command_of}
 use Rattle.zw_drive.specs.Lines.{usage_line, tree_fault_line, out_fault_line, stop_line}
 use Rattle.zw_drive.specs.Meaning.{Builds}
 use Rattle.zw_drive.specs.Stops.{at_start}
+use Rattle.zw_drive.specs.Validate.{IsValidateDue}
 use Rattle.zw_drive.specs.declared.stops.TheConstants.{IMPORT_PATH, FILE_ABSENT, FILE_LENGTH}
 use Rattle.zw_drive.specs.declared.build.TheConstants.{FILE_LIMIT}
 use Rattle.zw_form.specs.Form.{IsStopOf}
@@ -62,19 +64,17 @@ pub record IsUsage (files : List Handed) (status : ℕ) (out line : List ℕ) : 
 abbrev pub IsCommandDue : Option CommandLine → List Handed → ℕ → List ℕ → List ℕ → Type 0
 IsCommandDue None files status out line = IsUsage files status out line
 IsCommandDue (Some (Build root)) files status out line = IsBuildDue root files status out line
+IsCommandDue (Some (Validate file)) files status out line = IsValidateDue file files status out line
 
 -- for these words, with these files handed over, this status, these bytes and this line are due
 abbrev pub IsDue : List (List ℕ) → List Handed → ℕ → List ℕ → List ℕ → Type 0
 IsDue words files status out line = IsCommandDue (command_of words) files status out line
 
--- these bytes are a front of those
-abbrev pub IsFront : List ℕ → List ℕ → Type 0
-IsFront front bytes = (n : ℕ) × (front ≡ take n bytes)
-
 -- the command loads a file
 abbrev pub IsLoadDue : Option CommandLine → Type 0
 IsLoadDue None = ⊥
 IsLoadDue (Some (Build root)) = ends_with nat_eq root (codes ".zig") ≡ true
+IsLoadDue (Some (Validate file)) = Unit {0}
 
 -- the tree failed as a file was to be loaded: status 7, its line, and nothing is written
 pub record IsTreeFault (words : List (List ℕ)) (files : List Handed) (status : ℕ) (out line : List ℕ) : Type 0 where

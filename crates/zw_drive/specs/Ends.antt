@@ -7,6 +7,7 @@ use Rattle.zw_base.specs.declared.files.Answer.TheVariants.{Bytes}
 use Rattle.zw_base.specs.declared.files.Handed.{Handed}
 use Rattle.zw_base.specs.declared.stop.Refused.{Refused}
 use Rattle.zw_base.specs.declared.stop.Refused.TheVariants as refused
+pub use Rattle.zw_drive.specs.Statuses.{code_of}
 use Rattle.zw_drive.specs.Commands.{Build}
 use Rattle.zw_drive.specs.Due.{IsAnswerDue, IsBuildDue, IsLoadDue, IsFront}
 use Rattle.zw_drive.specs.Lines.{IsNamed, stop_line, tree_fault_line, out_fault_line}
@@ -83,16 +84,6 @@ pub record WritesTree (root : List ℕ) (loaded_before loaded_after : List Hande
   pub loads : loaded_after ≡ loaded_before ++ files
   pub writes : Appends taken_before taken_after out
   pub ends : BuildEnds root files out result
-
--- the number of a status
-abbrev pub code_of : Status → ℕ
-code_of statuses.Done = 0
-code_of statuses.Stopped = 1
-code_of statuses.Usage = 2
-code_of statuses.TreeFault = 7
-code_of statuses.OutFault = 9
-code_of statuses.DiagFault = 10
-code_of statuses.OutOfMemory = 11
 
 -- a line was said: it was put whole and the status is its own, or a front of it was put and the status is 10 or 11
 pub record Says (own : Status) (line : List ℕ) (taken_before taken_after : Option (List ℕ)) (status : Status) : Type 0 where

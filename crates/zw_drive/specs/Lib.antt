@@ -1,7 +1,12 @@
 pub mod Commands
 pub mod Lines
 pub mod Stops
+pub mod Statuses
+pub mod Fronts
+pub mod Refusals
+pub mod Validate
 pub mod Meaning
 pub mod Due
 pub mod Ends
+pub mod ValidateReports
 pub mod Laws

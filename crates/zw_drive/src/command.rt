@@ -1,6 +1,6 @@
 // The words of a command line.
 ghost use Rattle.std.specs.Prelude.{◌≡◌};
-ghost use Rattle.zw_drive.specs.Commands.{command_of, line_of};
+ghost use Rattle.zw_drive.specs.Commands.{command_of, command_on, line_of};
 
 use zw_base::Word;
 
@@ -9,6 +9,8 @@ use zw_base::Word;
 pub enum Command<'a> {
     /// Builds the tree of files below this root, and writes the module.
     Build { root: &'a Word },
+    /// Reads and validates the module's file at this path.
+    Validate { file: &'a Word },
     /// Nothing: the words are no command.
     Unknown,
 }
@@ -18,9 +20,20 @@ pub fn read_command(words: &[Word]) -> Command<'_>
     ensures { line_of result ≡ command_of words.now }
 {
     match words {
-        [verb, root] if verb.bytes() == b"build".as_slice() && !root.bytes().is_empty() => {
-            Command::Build { root }
-        }
+        [verb, word] if !word.bytes().is_empty() => read_command_on(verb, word),
         _ => Command::Unknown,
     }
+}
+
+/// The command of a verb and one word.
+fn read_command_on<'a>(verb: &Word, word: &'a Word) -> Command<'a>
+    ensures { line_of result ≡ command_on verb.now word.now }
+{
+    if verb.bytes() == b"build".as_slice() {
+        return Command::Build { root: word };
+    }
+    if verb.bytes() == b"validate".as_slice() {
+        return Command::Validate { file: word };
+    }
+    Command::Unknown
 }

@@ -1,17 +1,20 @@
 // The call that the program makes.
-ghost use Rattle.std.specs.Prelude.{◌≡◌, ◌≢◌, [], ◌∷◌};
+ghost use Rattle.std.specs.Prelude.{◌≡◌, [], ◌∷◌};
 ghost use Rattle.zw_drive.specs.Due.{Serves, IsBlamed};
-ghost use Rattle.zw_drive.specs.Ends.{code_of, Says, Reports, HasNamedStop};
+ghost use Rattle.zw_drive.specs.Ends.{code_of, Reports, HasNamedStop};
 
 use crate::build::{BuildErr, build};
 use crate::command::{Command, read_command};
 use crate::lines::{OUT_FAULT, TREE_FAULT, USAGE, stop_line};
+use crate::say::say;
 use crate::status::Status;
+use crate::validate::{report_validated, validate};
 use std::alloc::Global;
-use zw_base::{PutErr, Sink, Source, Tree, Word, put_all};
+use zw_base::{Sink, Source, Tree, Word};
 
 /// Does what the words of a command line ask for, and answers the status: 0 where all was written, 1 where the tree of
-/// files has a stop, 2 where the words are no command, 7, 9 and 10 for a fault of `tree`, `out` and `diag`, and 11 for want
+/// files has a stop or the module's file is absent or too long, 2 where the words are no command, 6 where the file is no valid
+/// module, 7, 9 and 10 for a fault of `tree`, `out` and `diag`, and 11 for want
 /// of memory. Only commands that say so read `input`.
 pub fn zig<T: Tree, S: Source, O: Sink, D: Sink>(
     alloc: Global,
@@ -55,6 +58,10 @@ fn serve<T: Tree, O: Sink, D: Sink>(
             let built = build(alloc, root, tree, out);
             report(alloc, root, built, diag)
         }
+        Command::Validate { file } => {
+            let validated = validate(alloc, file, tree, out);
+            report_validated(alloc, file, validated, diag)
+        }
     }
 }
 
@@ -73,18 +80,5 @@ fn report<D: Sink>(alloc: Global, root: &Word, built: Result<(), BuildErr>, diag
         Err(BuildErr::TreeFault) => say(diag, Status::TreeFault, TREE_FAULT.as_bytes()),
         Err(BuildErr::OutFault) => say(diag, Status::OutFault, OUT_FAULT.as_bytes()),
         Err(BuildErr::Oom) => Status::OutOfMemory,
-    }
-}
-
-/// Puts a line, and answers the status that it belongs to, unless the line can't be written.
-fn say<D: Sink>(diag: &mut D, own: Status, line: &[u8]) -> Status
-    requires { own ≢ Status.DiagFault }
-    ensures says { Says own line.now (D.taken diag.old) (D.taken diag.new) result }
-    ensures blamed { IsBlamed (D.faults diag.old) (D.faults diag.new) (code_of result) 10 [] }
-{
-    match put_all(diag, line) {
-        Ok(()) => own,
-        Err(PutErr::Failed) => Status::DiagFault,
-        Err(PutErr::Oom) => Status::OutOfMemory,
     }
 }

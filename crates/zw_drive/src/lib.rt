@@ -8,8 +8,11 @@ mod compile;
 mod drive;
 mod laws;
 mod lines;
+mod refusal;
+mod say;
 mod status;
 mod stops;
+mod validate;
 
 pub use drive::zig;
 pub use laws::{one_due, sessions_are_of_fitting_calls, sessions_stay_ended};

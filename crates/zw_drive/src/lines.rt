@@ -123,7 +123,7 @@ fn after_path(
 }
 
 /// A name as it is printed: as it is, where all its bytes lie from 0x21 to 0x7E, and else in hexadecimal.
-fn shown(alloc: Global, name: &[u8]) -> Result<Vec<u8>, Oom>
+pub fn shown(alloc: Global, name: &[u8]) -> Result<Vec<u8>, Oom>
     ensures { IfOk result (λ text. text.items ≡ shown name.now) }
 {
     if is_plain(name) {

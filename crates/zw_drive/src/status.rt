@@ -5,10 +5,12 @@
 pub enum Status {
     /// All was written.
     Done = 0,
-    /// The tree of files has a stop.
+    /// The tree of files has a stop, or the file is absent or too long.
     Stopped = 1,
     /// The words are no command.
     Usage = 2,
+    /// The file is no valid module.
+    Invalid = 6,
     /// The tree failed.
     TreeFault = 7,
     /// The output failed.

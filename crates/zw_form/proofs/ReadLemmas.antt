@@ -1,33 +1,94 @@
--- Reading a list item by item.
-use Rattle.std.proofs.Common.{ℕ, List, [], ◌++◌, sym, ap, ◌∙◌, append_assoc, append-nil}
+-- What the answers on the members of a file say of its text.
+use Rattle.std.proofs.Common.{◌≡◌, ◌≢◌, ◌⊎◌, inl, inr, ℕ, List, [], ◌∷◌, map, All, AllPairs, Some, refl, sym, ap, ◌∙◌, subst}
+use Rattle.std.proofs.lemmas.List.Elements.{All-head, All-tail}
+use Rattle.zw_base.specs.declared.stop.Stop.{Stop}
+use Rattle.zw_base.specs.declared.stop.Refused.{Refused}
+use Rattle.zw_base.specs.declared.stop.Refused.TheVariants as refused
+use Rattle.zw_parse.specs.Syntax.{IsTreeOf, IsSyntaxRefusal}
+use Rattle.zw_token.specs.Tokens.{Tokens}
 use Rattle.zw_token.specs.declared.token.Token.{Token}
-use Rattle.zw_form.specs.Grammar.{Rule, IsUnfit}
-use Rattle.zw_form.specs.Growth.{Grows}
-use Rattle.zw_form.specs.declared.source.Step.{Step}
-use Rattle.zw_form.specs.declared.syntax.sums.Steps.{Steps}
+use Rattle.zw_tree.specs.Numbering.{from, inside_first}
+use Rattle.zw_tree.specs.Trees.{Forest, none, tree}
+use Rattle.zw_tree.specs.declared.ast.Entry.{Entry}
+use Rattle.zw_form.specs.Form.{HasForm, IsProgramOf, IsRefusal, IsStopOf}
+use Rattle.zw_form.specs.Listed.{AreFunctions, declared_at, members_at}
+use Rattle.zw_form.specs.Members.{Member, Passes, IsFirstStop, IsLight, IsWeightStop, functions_of, members_behind, members_of}
+use Rattle.zw_form.specs.Nodes.{siblings}
+use Rattle.zw_form.specs.Programs.{program_of}
+use Rattle.zw_form.specs.Rules.{name_of, exports_of}
+use Rattle.zw_form.specs.Trees.{Tree, declaration_of}
+use Rattle.zw_form.specs.declared.members.Functions.{Functions}
+use Rattle.zw_form.specs.declared.program.Program.{Program}
+use Rattle.zw_form.specs.declared.source.Declaration.{Declaration}
+use Rattle.zw_form.specs.declared.source.ExportedFunction.{ExportedFunction}
+use Rattle.zw_form.proofs.FileRules.{all-new, declared-trees, form_rules}
+use Rattle.zw_form.proofs.ListedLemmas.{functions-same, members-are}
+use Rattle.zw_form.proofs.ProgramLemmas.{exports-differ}
 
--- From ts on, up to us, items of a list were read, and the output has grown from the old to the new. Each list that the
--- rule gives at us makes one at ts, which adds to the old output what that list adds to the new one. Where there is a list
--- at ts, there is one at us.
-pub record HasRead {X O : Type 0} (R : X → Rule) (Adds : O → O → X → Type 0) (old new : O) (ts us : List Token) : Type 0 where
-  pub adds : (more : X) (last : O) (vs : List Token) → R more us vs → Adds new last more → (all : X) × R all ts vs × Adds old last all
-  pub takes : (all : X) (vs : List Token) → R all ts vs → (more : X) × R more us vs
+from-zero : (file : Forest Entry) → from file 0 ≡ file
+from-zero none = refl
+from-zero (tree root inside behind) = refl
 
-pub HasRead-more : {X O : Type 0} {R : X → Rule} {Adds : O → O → X → Type 0} {old mid new : O} {ts us vs : List Token} → HasRead R Adds old mid ts us → HasRead R Adds mid new us vs → HasRead R Adds old new ts vs
-HasRead-more before item = record {
-  adds = λ more last ws h a. let one = item.adds more last ws h a in before.adds one.0 last ws one.1 one.2;
-  takes = λ all ws h. let one = before.takes all ws h in item.takes one.0 ws one.1;
-}
+trees-of : (functions : List Declaration) (ms : List Member) → All (Passes functions) ms → (trees : List Tree) × (map (λ (m : Member). m.declares) ms ≡ map (λ (t : Tree). Some t) trees)
+trees-of functions [] all = ([], refl)
+trees-of functions (m ∷ ms) all =
+    let k = (All-head (Passes functions) m ms all).keeps in
+    let rest = trees-of functions ms (All-tail (Passes functions) m ms all) in
+    (k.declared ∷ rest.0, λ i. k.declares i ∷ rest.1 i)
 
-pub HasRead-unfit : {X O : Type 0} {R : X → Rule} {Adds : O → O → X → Type 0} {old new : O} {ts us : List Token} → HasRead R Adds old new ts us → ((more : X) → IsUnfit (R more) us) → (all : X) → IsUnfit (R all) ts
-HasRead-unfit read unfit all vs h = let t = read.takes all vs h in unfit t.0 vs t.1
+module _ (text : List ℕ) (tokens : List Token) (file : Forest Entry) (listed : Tokens text tokens) (has_tree : IsTreeOf 0 text tokens file) (ns : List ℕ) (are : map (from file) ns ≡ siblings (inside_first (from file 0))) where
+  members-file : members_at text tokens file ns 0 [] ≡ members_of text tokens file
+  members-file =
+      members-are text tokens file ns (inside_first (from file 0)) 0 [] are ∙ ap (λ (f : Forest Entry). members_behind text tokens (inside_first f) 0 []) (from-zero file)
 
--- what two parts add, in their order
-pub Grows-none : (s : Steps) → Grows s s [] []
-Grows-none s = record { steps_grow = sym (append-nil s.steps); callees_grow = sym (append-nil s.callees) }
+  pub form_stop : (stop : Stop) → IsFirstStop (members_at text tokens file ns 0 []) stop ⊎ IsWeightStop (members_at text tokens file ns 0 []) stop → IsStopOf text stop
+  form_stop stop stops =
+      inr (inr (record {
+        tokens = tokens;
+        file = file;
+        has_tokens = listed;
+        has_tree = has_tree;
+        stops = subst (λ (ms : List Member). IsFirstStop ms stop ⊎ IsWeightStop ms stop) members-file stops;
+      }))
 
-pub Grows-then : {a b c : Steps} (s t : List Step) (x y : List (List ℕ)) → Grows a b s x → Grows b c t y → Grows a c (s ++ t) (x ++ y)
-Grows-then {a} {b} {c} s t x y first second = record {
-  steps_grow = second.steps_grow ∙ ap (λ l. l ++ t) first.steps_grow ∙ append_assoc a.steps s t;
-  callees_grow = second.callees_grow ∙ ap (λ l. l ++ y) first.callees_grow ∙ append_assoc a.callees x y;
-}
+  module _ (f : Functions) (functions : AreFunctions (declared_at text tokens file ns) f)
+      (pass : All (Passes (functions_of (members_at text tokens file ns 0 []))) (members_at text tokens file ns 0 []))
+      (light : All IsLight (members_at text tokens file ns 0 [])) where
+    all_pass : All (Passes (functions_of (members_of text tokens file))) (members_of text tokens file)
+    all_pass = subst (λ (ms : List Member). All (Passes (functions_of ms)) ms) members-file pass
+
+    abbrev trees : List Tree
+    trees = (trees-of (functions_of (members_of text tokens file)) (members_of text tokens file) all_pass).0
+
+    form : HasForm text trees
+    form =
+        record {
+          tokens = tokens;
+          file = file;
+          has_tokens = listed;
+          has_tree = has_tree;
+          declares = (trees-of (functions_of (members_of text tokens file)) (members_of text tokens file) all_pass).1;
+          pass = all_pass;
+          light = subst (All IsLight) members-file light;
+        }
+
+    list-is : f.list ≡ map declaration_of trees
+    list-is =
+        sym (functions-same text tokens file ns f functions)
+        ∙ ap functions_of members-file
+        ∙ all-new text tokens (functions_of (members_of text tokens file)) (inside_first file) 0 [] all_pass
+        ∙ declared-trees (members_of text tokens file) trees (trees-of (functions_of (members_of text tokens file)) (members_of text tokens file) all_pass).1
+
+    -- its exported functions have parameters of different names, and its program is that of the text
+    pub form_params : All (λ (g : ExportedFunction). AllPairs (λ (x y : List ℕ). x ≢ y) g.params) (exports_of f.list)
+    form_params =
+        subst (λ (ds : List Declaration). All (λ (g : ExportedFunction). AllPairs (λ (x y : List ℕ). x ≢ y) g.params) (exports_of ds)) (sym list-is)
+        (exports-differ (map name_of (map declaration_of trees)) (map declaration_of trees) (form_rules text trees form).names)
+
+    pub form_program : (p : Program) → p ≡ program_of f.list → IsProgramOf text p
+    form_program p is = (trees, form, is ∙ ap program_of list-is)
+
+-- a text with tokens that has no tree
+pub syntax_refusal : (text : List ℕ) (tokens : List Token) → Tokens text tokens → (r : Refused) → IsSyntaxRefusal 0 text tokens r → IsRefusal text r
+syntax_refusal text tokens listed (refused.Stop stop) h = inr (inl (record { tokens = tokens; has_tokens = listed; stops = h }))
+syntax_refusal text tokens listed refused.Oom h = tt

@@ -1,8 +1,10 @@
 pub mod Trees
-pub mod Grammar
-pub mod Growth
+pub mod Nodes
 pub mod NameSets
+pub mod Work
 pub mod Rules
+pub mod Members
 pub mod Form
+pub mod Listed
 pub mod Programs
 pub mod Source

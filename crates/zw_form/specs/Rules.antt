@@ -1,8 +1,7 @@
 -- The rules on names, on what is called, and on how.
-use Rattle.std.specs.Prelude.{◌≡◌, ◌≢◌, ℕ, Bool, false, List, [], ◌∷◌, length, map, codes, All, AllPairs, Contains}
+use Rattle.std.specs.Prelude.{◌≡◌, ◌≢◌, ℕ, Bool, false, List, [], ◌∷◌, length, map, All, AllPairs, Contains, IsUtf8}
 use Rattle.std.specs.List.{list_any, flat_map}
 use Rattle.std.specs.Str.{bytes_eq}
-use Rattle.zw_token.specs.Names.{IsPrimitiveName, IsRefusedName}
 use Rattle.zw_form.specs.declared.names.TheConstants.{RESERVED_NAMES}
 use Rattle.zw_form.specs.declared.source.Callee.{Callee}
 use Rattle.zw_form.specs.declared.source.Declaration.{Declaration}
@@ -11,10 +10,6 @@ use Rattle.zw_form.specs.declared.source.ExportedFunction.{ExportedFunction}
 use Rattle.zw_form.specs.declared.source.ExternFunction.{ExternFunction}
 use Rattle.zw_form.specs.declared.source.Step.{Step}
 use Rattle.zw_form.specs.declared.source.Step.TheVariants.{Parameter, Number, Operate, Call}
-
--- what a function or a parameter may be named
-abbrev pub IsFree : List ℕ → Type 0
-IsFree name = (name ≢ codes "_") × (¬ IsPrimitiveName name) × (¬ IsRefusedName name)
 
 -- what a module exports beside its functions
 abbrev pub is_reserved : List ℕ → Bool
@@ -67,12 +62,11 @@ IsKnown externs params (Number n) = Unit {0}
 IsKnown externs params (Operate operator) = Unit {0}
 IsKnown externs params (Call callee) = (f : ExternFunction) × Contains externs f × IsCalled callee f
 
--- The rules on a function's names, among those of all functions: its name may be given, and isn't of what a module exports
--- beside functions; the parameters' names may be given, differ from each other and from those of all functions.
+-- The rules on a function's names, among those of all functions: its name is UTF-8, and isn't of what a module exports beside
+-- functions; the parameters' names differ from each other and from those of all functions.
 pub record KeepsNames (functions : List (List ℕ)) (d : Declaration) : Type 0 where
-  pub name_is_free : IsFree (name_of d)
+  pub name_is_text : IsUtf8 (name_of d)
   pub name_is_unreserved : is_reserved (name_of d) ≡ false
-  pub params_are_free : All IsFree (params_of d)
   pub params_differ : AllPairs (λ x y. x ≢ y) (params_of d)
   pub params_differ_from_functions : All (λ param. ¬ Contains functions param) (params_of d)
 

@@ -5,7 +5,7 @@ use Rattle.std.specs.Str.{bytes_eq}
 use Rattle.zw_num.specs.Arithmetic.{sum_in, difference_in, add_wrap_unsigned}
 use Rattle.zw_session.specs.Causes.{integer_overflow}
 use Rattle.zw_session.specs.Sessions.{Scalar, Number, Truth, HostEvent, Call, Halt, Panicked, WantsReply, Wild, CallEnd, Returned, Halted, Outcome, Machine}
-use Rattle.zw_form.specs.Trees.{Sum, Terms, Operations, NoMore, Then, Term, Parameter, Result, Sums, NoSum, More, CallStatement, Body, Tree, Extern, Export}
+use Rattle.zw_form.specs.Trees.{Sum, Parameter, Operate, Result, Sums, NoSum, More, CallStatement, Body, Tree, Extern, Export}
 use Rattle.zw_form.specs.Trees as terms
 use Rattle.zw_form.specs.declared.source.ExternFunction.{ExternFunction}
 use Rattle.zw_form.specs.declared.source.Operator.{Operator}
@@ -61,20 +61,12 @@ asked event (reply ∷ replies) = record { events = event ∷ []; end = Gives (r
 -- before their call.
 abbrev mutual
   pub sum_value : (List ℕ → ℕ) → Sum → List ℕ → Evaluated ℕ
-  sum_value values (Terms first others) replies =
-      and_then (term_value values first replies) (λ total left. operations_value values others total left)
-
-  -- a total, with further terms
-  pub operations_value : (List ℕ → ℕ) → Operations → ℕ → List ℕ → Evaluated ℕ
-  operations_value values NoMore total replies = gives total replies
-  operations_value values (Then operator term others) total replies =
-      and_then (term_value values term replies) (λ right left.
-      and_then (or_overflow (operator_value operator total right) left) (λ value more. operations_value values others value more))
-
-  pub term_value : (List ℕ → ℕ) → Term → List ℕ → Evaluated ℕ
-  term_value values (Parameter name) replies = gives (values name) replies
-  term_value values (terms.Number n) replies = gives n replies
-  term_value values (Result callee args) replies =
+  sum_value values (Parameter name) replies = gives (values name) replies
+  sum_value values (terms.Number n) replies = gives n replies
+  sum_value values (Operate operator left right) replies =
+      and_then (sum_value values left replies) (λ x more.
+      and_then (sum_value values right more) (λ y rest. or_overflow (operator_value operator x y) rest))
+  sum_value values (Result callee args) replies =
       and_then (args_value values args replies) (λ numbers left. asked (event_of callee numbers) left)
 
   pub args_value : (List ℕ → ℕ) → Sums → List ℕ → Evaluated (List ℕ)

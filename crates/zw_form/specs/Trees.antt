@@ -1,4 +1,4 @@
--- Trees: the files of the form that is built by now, as trees. A sum's terms may be calls, whose arguments are sums.
+-- Trees: the functions of the form, as trees. A sum's terms may be calls, whose arguments are sums.
 use Rattle.std.specs.Prelude.{ℕ, ◌+◌, true, false, List, [], ◌∷◌, ◌++◌}
 use Rattle.std.specs.List.{flat_map}
 use Rattle.zw_form.specs.declared.source.Declaration.{Declaration}
@@ -9,19 +9,12 @@ use Rattle.zw_form.specs.declared.source.Step.{Step}
 use Rattle.zw_form.specs.declared.source.Step.TheVariants as step
 
 mutual
-  -- a term, and the operators behind it with a term each
+  -- a parameter by its name, a number, an operator with its two operands, or the result of a call
   pub data Sum : Type 0 where
-    Terms : (first : Term) (others : Operations) → Sum
-
-  pub data Operations : Type 0 where
-    NoMore : Operations
-    Then : (operator : Operator) (term : Term) (others : Operations) → Operations
-
-  -- a parameter by its name, a number, or the result of a call
-  pub data Term : Type 0 where
-    Parameter : (name : List ℕ) → Term
-    Number : (n : ℕ) → Term
-    Result : (callee : List ℕ) (args : Sums) → Term
+    Parameter : (name : List ℕ) → Sum
+    Number : (n : ℕ) → Sum
+    Operate : (operator : Operator) (left right : Sum) → Sum
+    Result : (callee : List ℕ) (args : Sums) → Sum
 
   pub data Sums : Type 0 where
     NoSum : Sums
@@ -51,16 +44,10 @@ count_of (More sum others) = count_of others + 1
 -- arguments before the call.
 abbrev mutual
   pub sum_steps : Sum → List Step
-  sum_steps (Terms first others) = term_steps first ++ operation_steps others
-
-  pub operation_steps : Operations → List Step
-  operation_steps NoMore = []
-  operation_steps (Then operator term others) = term_steps term ++ (step.Operate operator ∷ operation_steps others)
-
-  pub term_steps : Term → List Step
-  term_steps (Parameter name) = step.Parameter name ∷ []
-  term_steps (Number n) = step.Number n ∷ []
-  term_steps (Result callee args) = args_steps args ++ step.Call (record { name = callee; args = count_of args; has_result = true }) ∷ []
+  sum_steps (Parameter name) = step.Parameter name ∷ []
+  sum_steps (Number n) = step.Number n ∷ []
+  sum_steps (Operate operator left right) = sum_steps left ++ (sum_steps right ++ step.Operate operator ∷ [])
+  sum_steps (Result callee args) = args_steps args ++ step.Call (record { name = callee; args = count_of args; has_result = true }) ∷ []
 
   pub args_steps : Sums → List Step
   args_steps NoSum = []
@@ -69,16 +56,10 @@ abbrev mutual
 -- The names of the functions that are called, in the order of the text: a function before those that its arguments call.
 abbrev mutual
   pub sum_callees : Sum → List (List ℕ)
-  sum_callees (Terms first others) = term_callees first ++ operation_callees others
-
-  pub operation_callees : Operations → List (List ℕ)
-  operation_callees NoMore = []
-  operation_callees (Then operator term others) = term_callees term ++ operation_callees others
-
-  pub term_callees : Term → List (List ℕ)
-  term_callees (Parameter name) = []
-  term_callees (Number n) = []
-  term_callees (Result callee args) = callee ∷ args_callees args
+  sum_callees (Parameter name) = []
+  sum_callees (Number n) = []
+  sum_callees (Operate operator left right) = sum_callees left ++ sum_callees right
+  sum_callees (Result callee args) = callee ∷ args_callees args
 
   pub args_callees : Sums → List (List ℕ)
   args_callees NoSum = []

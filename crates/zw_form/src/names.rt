@@ -4,34 +4,23 @@ ghost use Rattle.std.specs.List.{list_any};
 ghost use Rattle.std.specs.Str.{bytes_eq};
 ghost use Rattle.zw_form.specs.NameSets.{names_in};
 ghost use Rattle.zw_form.specs.Programs.{number_in, first_of_each};
-ghost use Rattle.zw_form.specs.Rules.{IsFree, is_reserved};
+ghost use Rattle.zw_form.specs.Nodes.{is_primitive};
+ghost use Rattle.zw_form.specs.Rules.{is_reserved};
 
 use indexmap::IndexSet;
 use sqlite_items::Items;
 use std::alloc::Global;
 use zw_base::Oom;
-use zw_token::{is_primitive_name, is_refused_name};
+use zw_token::is_primitive_name;
 
 /// The names of what a module exports beside its functions.
 pub const RESERVED_NAMES: [&str; 4] = ["memory", "panic_cause", "panic_ptr", "panic_len"];
 
-/// Whether a function or a parameter may have this name.
-pub fn is_free(name: &[u8]) -> bool
-    ensures { IsTrue result ↔ IsFree name.now }
+/// Whether this is the name of a primitive type or value.
+pub fn is_primitive(name: &[u8]) -> bool
+    ensures { result ≡ is_primitive name.now }
 {
-    name != b"_".as_slice() && !is_primitive_name(name) && !is_refused_name(name)
-}
-
-/// Whether each of these names is free.
-pub fn are_free(names: &[Items<u8>]) -> bool
-    ensures { IsTrue result ↔ All IsFree names.now }
-{
-    for name in names {
-        if !is_free(name.as_slice()) {
-            return false;
-        }
-    }
-    true
+    is_primitive_name(name)
 }
 
 /// Whether a module exports something else under this name.

@@ -1,49 +1,46 @@
 // The reader of a text of the form, from its bytes to its program.
 ghost use Rattle.std.specs.Prelude.{◌≡◌, ◌≤◌, length, IfOk, IfErr};
-ghost use Rattle.zw_form.specs.Form.{IsProgramOf, IsRefusal, not_built};
+ghost use Rattle.zw_form.specs.Form.{IsProgramOf, IsRefusal};
+ghost use Rattle.zw_parse.specs.Syntax.{IsTreeOf};
+ghost use Rattle.zw_token.specs.Tokens.{Tokens};
 
 use crate::Program;
-use crate::resolve::resolve;
-use crate::syntax::read_declarations;
+use crate::members::{first_stop, functions_of, weight_stop};
+use crate::nodes::children;
+use crate::resolve::program_of;
 use std::alloc::Global;
-use zw_base::{Place, Refused, Stop, StopKind};
-use zw_token::tokens;
+use zw_base::Refused;
+use zw_parse::parse;
+use zw_token::{Token, tokens};
+use zw_tree::Ast;
 
-/// The greatest number of bytes in a text of the form.
-pub const TEXT_LIMIT: usize = 65_536;
-
-/// The number of the error that says that a form isn't built yet.
-const NOT_BUILT: u16 = 36;
-
-/// The program of a text of the form, which has at most 4,194,304 bytes. A text without tokens is its own stop (errors 3, 4, 5
-/// and 7), and every other text is a stop at its first byte (error 36).
+/// The program of a text of the form, which has at most 4,194,304 bytes. Any other text is a stop: where it has no tokens its own
+/// (errors 3, 4, 5 and 7), where it has no tree that of the grammar (error 6, limit 3), and else the first of its members (error 36,
+/// limit 5), or behind these the first weight that is too great (limit 11).
 pub fn read_form(alloc: Global, text: &[u8]) -> Result<Program, Refused>
     requires { length text.now ≤ 4194304 }
     ensures program { IfOk result (IsProgramOf text.now) }
     ensures refused { IfErr result (IsRefusal text.now) }
 {
     let tokens = tokens(alloc, 0, text)?;
-    if text.len() > TEXT_LIMIT {
-        return Err(not_built());
-    }
-    let Some(file) = read_declarations(alloc, text, &tokens)? else {
-        return Err(not_built());
-    };
-    match resolve(alloc, file.as_slice())? {
-        Some(program) => Ok(program),
-        None => Err(not_built()),
-    }
+    let ast = parse(alloc, 0, text, &tokens)?;
+    read_file(alloc, text, &tokens, &ast)
 }
 
-/// The stop of a text that isn't of the form.
-fn not_built() -> Refused
-    ensures { result ≡ Refused.Stop not_built }
+/// The program of a file with this tree.
+fn read_file(alloc: Global, text: &[u8], tokens: &[Token], ast: &Ast) -> Result<Program, Refused>
+    requires tokens { Tokens text.now tokens.now }
+    requires tree { IsTreeOf 0 text.now tokens.now ast.now }
+    ensures program { IfOk result (IsProgramOf text.now) }
+    ensures refused { IfErr result (IsRefusal text.now) }
 {
-    let place = Place {
-        file: 0,
-        line: 1,
-        column: 1,
-    };
-    let kind = StopKind::Error(NOT_BUILT);
-    Refused::Stop(Stop { kind, place })
+    let members = children(ast, 0);
+    let functions = functions_of(alloc, text, tokens, ast, members)?;
+    if let Some(stop) = first_stop(alloc, ast, members, &functions)? {
+        return Err(Refused::Stop(stop));
+    }
+    if let Some(stop) = weight_stop(ast, members, &functions) {
+        return Err(Refused::Stop(stop));
+    }
+    Ok(program_of(alloc, &functions.names, functions.list.as_slice())?)
 }

@@ -1,34 +1,34 @@
 // The program of a file: what it names, by number.
-ghost use Rattle.std.specs.Prelude.{◌≡◌, ◌≢◌, map, IfOk, IfSome, IfNone, All, AllPairs};
+ghost use Rattle.std.specs.Prelude.{◌≡◌, ◌≢◌, map, IfOk, All, AllPairs};
 ghost use Rattle.zw_form.specs.NameSets.{names_in};
 ghost use Rattle.zw_form.specs.Programs.{called_in, import_named, action_of, function_of, program_of};
-ghost use Rattle.zw_form.specs.Rules.{KeepsRules, name_of, externs_of, exports_of};
+ghost use Rattle.zw_form.specs.Rules.{name_of, externs_of, exports_of};
 ghost use Rattle.zw_form.specs.declared.source.ExportedFunction.{ExportedFunction};
 
 use crate::names::{insert_all, number_in, set_of};
-use crate::rules::{extern_named, function_names, keep_names, keep_steps};
+use crate::rules::extern_named;
 use crate::{Action, Declaration, ExportedFunction, Function, Import, Program, Step};
 use indexmap::IndexSet;
 use sqlite_items::Items;
 use std::alloc::Global;
 use zw_base::Oom;
 
-/// The program of a file that keeps the rules.
-pub(crate) fn resolve(alloc: Global, file: &[Declaration]) -> Result<Option<Program>, Oom>
-    ensures found { IfOk result (λ answer. IfSome answer (λ p. KeepsRules file.now × (p ≡ program_of file.now))) }
-    ensures none { IfOk result (λ answer. IfNone answer (KeepsRules file.now → ⊥)) }
+/// The program of a file whose functions have these names.
+pub(crate) fn program_of(
+    alloc: Global,
+    functions: &IndexSet<Vec<u8>>,
+    file: &[Declaration],
+) -> Result<Program, Oom>
+    requires named { names_in functions.now ≡ map name_of file.now }
+    requires differ { AllPairs (λ x y. x ≢ y) (map name_of file.now) }
+    requires params { All (λ (f : ExportedFunction). AllPairs (λ x y. x ≢ y) f.params) (exports_of file.now) }
+    ensures { IfOk result (λ p. p ≡ program_of file.now) }
 {
-    let Some(functions) = function_names(alloc, file)? else {
-        return Ok(None);
-    };
-    if !keep_names(alloc, &functions, file)? || !keep_steps(alloc, &functions, file)? {
-        return Ok(None);
-    }
     let called = called_in(alloc, file)?;
-    Ok(Some(Program {
-        imports: imports_of(alloc, &functions, file, &called)?,
+    Ok(Program {
+        imports: imports_of(alloc, functions, file, &called)?,
         functions: functions_of(alloc, &called, file)?,
-    }))
+    })
 }
 
 /// A number of items, which a program has in 32 bits. A list of more items ends as want of memory does.

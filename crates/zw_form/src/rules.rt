@@ -1,35 +1,18 @@
 // The rules of a file: which names its declarations have, which functions it calls, and how.
-ghost use Rattle.std.specs.Prelude.{◌≡◌, ◌≢◌, ◌↔◌, [], length, map, IfOk, IfSome, IfNone, IsTrue, All, AllPairs, Contains, false};
+ghost use Rattle.std.specs.Prelude.{◌≡◌, ◌≢◌, ◌↔◌, [], length, map, IfOk, IfSome, IfNone, IsTrue, IsUtf8, All, AllPairs, Contains, false};
 ghost use Rattle.std.specs.List.{flat_map};
 ghost use Rattle.zw_form.specs.NameSets.{names_in};
 ghost use Rattle.zw_form.specs.Programs.{first_of_each};
-ghost use Rattle.zw_form.specs.Rules.{IsFree, is_reserved, KeepsNames, KeepsSteps, IsKnown, IsCalled, name_of, externs_of, exports_of, parameter_of};
+ghost use Rattle.zw_form.specs.Rules.{is_reserved, KeepsNames, KeepsSteps, IsKnown, IsCalled, name_of, externs_of, export_of, parameter_of};
 ghost use Rattle.zw_form.specs.declared.source.ExternFunction.{ExternFunction};
 
-use crate::names::{
-    are_free, differ, differ_from, holds, holds_all, insert, is_free, is_reserved, number_in,
-    set_of,
-};
+use crate::names::{differ, differ_from, holds, holds_all, insert, is_reserved, number_in, set_of};
 use crate::{Callee, Declaration, ExportedFunction, ExternFunction, Step};
 use indexmap::IndexSet;
 use sqlite_items::at;
 use std::alloc::Global;
+use std::str::from_utf8;
 use zw_base::Oom;
-
-/// The names of a file's functions in their order, where they differ from each other.
-pub fn function_names(alloc: Global, file: &[Declaration]) -> Result<Option<IndexSet<Vec<u8>>>, Oom>
-    ensures found { IfOk result (λ answer. IfSome answer (λ names.
-        (names_in names ≡ map name_of file.now) × AllPairs (λ x y. x ≢ y) (map name_of file.now))) }
-    ensures none { IfOk result (λ answer. IfNone answer (AllPairs (λ x y. x ≢ y) (map name_of file.now) → ⊥)) }
-{
-    let mut names = IndexSet::new(alloc);
-    for declaration in file {
-        if !insert(alloc, &mut names, declaration.name())? {
-            return Ok(None);
-        }
-    }
-    Ok(Some(names))
-}
 
 /// The extern function of a file with this name. The set has the names of the file's functions, in their order.
 pub fn extern_named<'f>(
@@ -51,9 +34,9 @@ pub fn extern_named<'f>(
 
 /// Whether a function may have this name.
 fn may_be_function(name: &[u8]) -> bool
-    ensures { IsTrue result ↔ (IsFree name.now × (is_reserved name.now ≡ false)) }
+    ensures { IsTrue result ↔ (IsUtf8 name.now × (is_reserved name.now ≡ false)) }
 {
-    is_free(name) && !is_reserved(name)
+    from_utf8(name).is_ok() && !is_reserved(name)
 }
 
 /// Whether the names of a declaration keep the rules, among the names of all functions.
@@ -65,27 +48,11 @@ fn keeps_names(
     ensures { IfOk result (λ kept. IsTrue kept ↔ KeepsNames (names_in functions.now) declaration.now) }
 {
     let params = declaration.params();
-    if may_be_function(declaration.name()) && are_free(params) && differ_from(functions, params) {
+    if may_be_function(declaration.name()) && differ_from(functions, params) {
         differ(alloc, params)
     } else {
         Ok(false)
     }
-}
-
-/// Whether the names of each declaration keep the rules, among the names of all functions.
-pub fn keep_names(
-    alloc: Global,
-    functions: &IndexSet<Vec<u8>>,
-    file: &[Declaration],
-) -> Result<bool, Oom>
-    ensures { IfOk result (λ kept. IsTrue kept ↔ All (KeepsNames (names_in functions.now)) file.now) }
-{
-    for declaration in file {
-        if !keeps_names(alloc, functions, declaration)? {
-            return Ok(false);
-        }
-    }
-    Ok(true)
 }
 
 /// Whether a call has the number of arguments and the use of the result that a function wants.
@@ -177,22 +144,23 @@ fn keeps_steps(
     Ok(holds_all(&mentioned, function.params.as_slice()))
 }
 
-/// Whether what each exported function of a file does keeps the rules.
-pub fn keep_steps(
+/// Whether a declaration of a file keeps the rules.
+pub(crate) fn keeps_rules(
     alloc: Global,
     functions: &IndexSet<Vec<u8>>,
     file: &[Declaration],
+    declaration: &Declaration,
 ) -> Result<bool, Oom>
     requires named { names_in functions.now ≡ map name_of file.now }
     requires differ { AllPairs (λ x y. x ≢ y) (map name_of file.now) }
-    ensures { IfOk result (λ kept. IsTrue kept ↔ All (KeepsSteps (externs_of file.now)) (exports_of file.now)) }
+    ensures { IfOk result (λ kept. IsTrue kept ↔
+        (KeepsNames (names_in functions.now) declaration.now × All (KeepsSteps (externs_of file.now)) (export_of declaration.now))) }
 {
-    for declaration in file {
-        if let Declaration::Export(function) = declaration {
-            if !keeps_steps(alloc, functions, file, function)? {
-                return Ok(false);
-            }
-        }
+    if !keeps_names(alloc, functions, declaration)? {
+        return Ok(false);
     }
-    Ok(true)
+    match declaration {
+        Declaration::Extern(_) => Ok(true),
+        Declaration::Export(function) => keeps_steps(alloc, functions, file, function),
+    }
 }

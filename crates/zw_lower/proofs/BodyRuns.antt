@@ -1,21 +1,21 @@
 -- The code of a sum, a term, arguments and statements comes out as evaluating them does.
-use Rattle.std.proofs.Common.{◌≡◌, ℕ, ◌<◌, ◌^◌, true, false, List, [], ◌∷◌, ◌++◌, refl, sym, ap, ◌∙◌, append_assoc, All, Contains}
+use Rattle.std.proofs.Common.{◌≡◌, ℕ, true, false, List, [], ◌∷◌, ◌++◌, refl, sym, ap, ◌∙◌, append_assoc, All, Contains}
 use Rattle.std.proofs.lemmas.List.{reverse-append}
 use Rattle.std.proofs.lemmas.List.Elements.{All-head}
 use Rattle.std.specs.List.{flat_map}
 use Rattle.zw_form.specs.Form.{FitsStep}
 use Rattle.zw_form.specs.Rules.{IsKnown}
-use Rattle.zw_form.specs.Source.{Evaluated, Gives, gives, and_then, operator_value, or_overflow, event_of, asked, sum_value, operations_value, term_value, args_value, statement_done, statements_done, body_value}
-use Rattle.zw_form.specs.Trees.{Sum, Terms, Operations, NoMore, Then, Term, Parameter, Result, Sums, NoSum, More, CallStatement, Body, count_of, sum_steps, operation_steps, term_steps, args_steps, statement_steps, body_steps, sum_callees, operation_callees, term_callees, args_callees, statement_callees, body_callees}
+use Rattle.zw_form.specs.Source.{Evaluated, Gives, gives, and_then, operator_value, or_overflow, event_of, asked, sum_value, args_value, statement_done, statements_done, body_value}
+use Rattle.zw_form.specs.Trees.{Sum, Parameter, Operate, Result, Sums, NoSum, More, CallStatement, Body, count_of, sum_steps, args_steps, statement_steps, body_steps, sum_callees, args_callees, statement_callees, body_callees}
 use Rattle.zw_form.specs.Trees as terms
 use Rattle.zw_form.specs.declared.source.ExternFunction.{ExternFunction}
 use Rattle.zw_form.specs.declared.source.Step.{Step}
 use Rattle.zw_form.specs.declared.source.Step.TheVariants as step
-use Rattle.zw_lower.proofs.BodySmall.{AreArgs, IsSmall, IsAny, gives-any, ReadsSmall, operator-small, term-small, sum-small, args-small}
+use Rattle.zw_lower.proofs.BodySmall.{AreArgs, IsSmall, IsAny, gives-any, ReadsSmall, sum-small, args-small}
 use Rattle.zw_lower.proofs.ComesCompose.{gone_on, comes-then}
 use Rattle.zw_lower.proofs.Running.{Comes, Imports, Placed, one_number, numbers_reversed, steps_code, words}
 use Rattle.zw_lower.proofs.ListLemmas.{All-right}
-use Rattle.zw_lower.proofs.StepsReady.{Ready, ready-left, ready-right, ready-args, ready-on}
+use Rattle.zw_lower.proofs.StepsReady.{Ready, ready-left, ready-right, ready-args, ready-last, ready-on}
 use Rattle.zw_lower.proofs.StepsRun.{StepsCome, steps-then, called, no_numbers, nothing-comes, parameter-comes, number-comes, operator-comes, call-comes, call-told}
 use Rattle.zw_wasm.specs.declared.module.Instr.{Instr}
 use Rattle.zw_wasm.specs.declared.module.Module.{Module}
@@ -46,40 +46,28 @@ args-come m v imports params steps r n c os rest h =
 
 mutual
   pub sum_comes : (m : Module) (v : View) (externs : List ExternFunction) (imports params : List (List ℕ)) (values : List ℕ → ℕ) (s : Sum) (c : Config) (os : List Num) (rest : List Instr) → Ready m v externs imports params values (sum_steps s) (sum_callees s) c → StepsCome m v imports params one_number (sum_value values s c.world.replies) (sum_steps s) c os rest os
-  sum_comes m v externs imports params values (Terms first others) c os rest h =
-      let r = term_value values first c.world.replies in
-      let own = ready-left (term_steps first) (operation_steps others) (term_callees first) (operation_callees others) h in
-      let behind = ready-right (term_steps first) (operation_steps others) (term_callees first) (operation_callees others) h in
-      steps-then IsSmall m v imports params one_number one_number (term_steps first) (operation_steps others) r (λ total left. operations_value values others total left) c os os rest os
-      (term_comes m v externs imports params values first c os (steps_code imports params (operation_steps others) ++ rest) own)
-      (term-small externs params values first c.world.replies (reads own))
-      (λ total left locals small kept. operations_comes m v externs imports params values others total (gone_on r.events left locals c) os rest small (ready-on r.events left locals behind kept))
-
-  pub operations_comes : (m : Module) (v : View) (externs : List ExternFunction) (imports params : List (List ℕ)) (values : List ℕ → ℕ) (others : Operations) (total : ℕ) (c : Config) (os : List Num) (rest : List Instr) → total < 2 ^ 32 → Ready m v externs imports params values (operation_steps others) (operation_callees others) c → StepsCome m v imports params one_number (operations_value values others total c.world.replies) (operation_steps others) c (I32 total ∷ os) rest os
-  operations_comes m v externs imports params values NoMore total c os rest small h = nothing-comes m v imports params one_number total c (I32 total ∷ os) rest os refl
-  operations_comes m v externs imports params values (Then operator term others) total c os rest small h =
-      let r = term_value values term c.world.replies in
+  sum_comes m v externs imports params values (Parameter name) c os rest h = parameter-comes m v externs imports params values name c os rest h
+  sum_comes m v externs imports params values (terms.Number n) c os rest h = number-comes m v imports params n c os rest (All-head FitsStep (step.Number n) [] h.fits)
+  sum_comes m v externs imports params values (Operate operator left right) c os rest h =
       let operate = step.Operate operator ∷ [] in
-      let own = ready-left (term_steps term) (operate ++ operation_steps others) (term_callees term) (operation_callees others) h in
-      let behind = ready-right (term_steps term) (operate ++ operation_steps others) (term_callees term) (operation_callees others) h in
-      let next = λ (value : ℕ) (more : List ℕ). operations_value values others value more in
-      steps-then IsSmall m v imports params one_number one_number (term_steps term) (operate ++ operation_steps others) r (λ right left. and_then (or_overflow (operator_value operator total right) left) next) c (I32 total ∷ os) (I32 total ∷ os) rest os
-      (term_comes m v externs imports params values term c (I32 total ∷ os) (steps_code imports params (operate ++ operation_steps others) ++ rest) own)
-      (term-small externs params values term c.world.replies (reads own))
-      (λ right left locals right_is kept.
-      let d = gone_on r.events left locals c in
-      let here = ready-on r.events left locals behind kept in
-      let o = or_overflow (operator_value operator total right) left in
-      let tail = ready-right operate (operation_steps others) [] (operation_callees others) here in
-      steps-then IsSmall m v imports params one_number one_number operate (operation_steps others) o next d (I32 right ∷ I32 total ∷ os) os rest os
-      (operator-comes m v externs imports params values operator total right d os (steps_code imports params (operation_steps others) ++ rest) (ready-left operate (operation_steps others) [] (operation_callees others) here) small right_is)
-      (operator-small operator total right left small)
-      (λ value more others_locals value_is others_kept. operations_comes m v externs imports params values others value (gone_on o.events more others_locals d) os rest value_is (ready-on o.events more others_locals tail others_kept)))
-
-  pub term_comes : (m : Module) (v : View) (externs : List ExternFunction) (imports params : List (List ℕ)) (values : List ℕ → ℕ) (t : Term) (c : Config) (os : List Num) (rest : List Instr) → Ready m v externs imports params values (term_steps t) (term_callees t) c → StepsCome m v imports params one_number (term_value values t c.world.replies) (term_steps t) c os rest os
-  term_comes m v externs imports params values (Parameter name) c os rest h = parameter-comes m v externs imports params values name c os rest h
-  term_comes m v externs imports params values (terms.Number n) c os rest h = number-comes m v imports params n c os rest (All-head FitsStep (step.Number n) [] h.fits)
-  term_comes m v externs imports params values (Result callee args) c os rest h =
+      let r = sum_value values left c.world.replies in
+      let own = ready-left (sum_steps left) (sum_steps right ++ operate) (sum_callees left) (sum_callees right) h in
+      let behind = ready-right (sum_steps left) (sum_steps right ++ operate) (sum_callees left) (sum_callees right) h in
+      steps-then IsSmall m v imports params one_number one_number (sum_steps left) (sum_steps right ++ operate) r (λ x more. and_then (sum_value values right more) (λ y others. or_overflow (operator_value operator x y) others)) c os os rest os
+      (sum_comes m v externs imports params values left c os (steps_code imports params (sum_steps right ++ operate) ++ rest) own)
+      (sum-small externs params values left c.world.replies (reads own))
+      (λ x more locals x_is kept.
+      let d = gone_on r.events more locals c in
+      let here = ready-on r.events more locals behind kept in
+      let o = sum_value values right more in
+      let first = ready-args (sum_steps right) operate [] (sum_callees right) here in
+      let last = ready-last (sum_steps right) operate (sum_callees right) here in
+      steps-then IsSmall m v imports params one_number one_number (sum_steps right) operate o (λ y others. or_overflow (operator_value operator x y) others) d (I32 x ∷ os) (I32 x ∷ os) rest os
+      (sum_comes m v externs imports params values right d (I32 x ∷ os) (steps_code imports params operate ++ rest) first)
+      (sum-small externs params values right more (reads first))
+      (λ y others others_locals y_is others_kept.
+      operator-comes m v externs imports params values operator x y (gone_on o.events others others_locals d) os rest (ready-on o.events others others_locals last others_kept) x_is y_is))
+  sum_comes m v externs imports params values (Result callee args) c os rest h =
       let r = args_value values args c.world.replies in
       let last = called callee (count_of args) true in
       let own = ready-args (args_steps args) (last ∷ []) (callee ∷ []) (args_callees args) h in

@@ -5,8 +5,8 @@ use Rattle.std.proofs.lemmas.List.Elements.{All-nil, All-cons, All-head}
 use Rattle.std.specs.Prelude.{nat_lt, nat_le, if◌then◌else◌}
 use Rattle.zw_form.specs.Form.{FitsStep}
 use Rattle.zw_form.specs.Rules.{IsKnown}
-use Rattle.zw_form.specs.Source.{Answer, Gives, Stops, operator_value, or_overflow, event_of, asked, gives, and_then, sum_value, operations_value, term_value, args_value}
-use Rattle.zw_form.specs.Trees.{Sum, Terms, Operations, NoMore, Then, Term, Parameter, Result, Sums, NoSum, More, Body, count_of, sum_steps, operation_steps, term_steps, args_steps, statement_steps, body_steps}
+use Rattle.zw_form.specs.Source.{Answer, Gives, Stops, operator_value, or_overflow, event_of, asked, gives, and_then, sum_value, args_value}
+use Rattle.zw_form.specs.Trees.{Sum, Parameter, Operate, Result, Sums, NoSum, More, count_of, sum_steps, args_steps}
 use Rattle.zw_form.specs.Trees as terms
 use Rattle.zw_form.specs.declared.source.ExternFunction.{ExternFunction}
 use Rattle.zw_form.specs.declared.source.Operator.{Operator}
@@ -65,34 +65,24 @@ pub gives-any : {V : Type 0} (end : Answer V) → IfGives IsAny end
 gives-any (Gives value left) = tt
 gives-any (Stops halt) = tt
 
-pub term-small : (externs : List ExternFunction) (params : List (List ℕ)) (values : List ℕ → ℕ) (t : Term) (replies : List ℕ) → ReadsSmall externs params values (term_steps t) → IfGives IsSmall (term_value values t replies).end
-term-small externs params values (Parameter name) replies h =
+pub sum-small : (externs : List ExternFunction) (params : List (List ℕ)) (values : List ℕ → ℕ) (s : Sum) (replies : List ℕ) → ReadsSmall externs params values (sum_steps s) → IfGives IsSmall (sum_value values s replies).end
+sum-small externs params values (Parameter name) replies h =
     h.params_are name (All-head (IsKnown externs params) (step.Parameter name) [] h.known)
-term-small externs params values (terms.Number n) replies h = All-head FitsStep (step.Number n) [] h.fits
-term-small externs params values (Result callee args) replies h =
+sum-small externs params values (terms.Number n) replies h = All-head FitsStep (step.Number n) [] h.fits
+sum-small externs params values (Operate operator left right) replies h =
+    let operate = step.Operate operator ∷ [] in
+    let r = sum_value values left replies in
+    let behind = reads-right (sum_steps left) (sum_steps right ++ operate) h in
+    if_gives-then IsSmall IsSmall r.events r.end (λ x more. and_then (sum_value values right more) (λ y rest. or_overflow (operator_value operator x y) rest))
+    (sum-small externs params values left replies (reads-left (sum_steps left) (sum_steps right ++ operate) h))
+    (λ x more x_is.
+    let o = sum_value values right more in
+    if_gives-then IsSmall IsSmall o.events o.end (λ y rest. or_overflow (operator_value operator x y) rest)
+    (sum-small externs params values right more (reads-left (sum_steps right) operate behind))
+    (λ y rest y_is. operator-small operator x y rest x_is))
+sum-small externs params values (Result callee args) replies h =
     let r = args_value values args replies in
     if_gives-then IsAny IsSmall r.events r.end (λ numbers left. asked (event_of callee numbers) left) (gives-any r.end) (λ numbers left any. asked-small (event_of callee numbers) left)
-
-pub operations-small : (externs : List ExternFunction) (params : List (List ℕ)) (values : List ℕ → ℕ) (others : Operations) (total : ℕ) (replies : List ℕ) → ReadsSmall externs params values (operation_steps others) → total < 2 ^ 32 → IfGives IsSmall (operations_value values others total replies).end
-operations-small externs params values NoMore total replies h small = small
-operations-small externs params values (Then operator term others) total replies h small =
-    let r = term_value values term replies in
-    let behind_term = reads-right (term_steps term) (step.Operate operator ∷ operation_steps others) h in
-    let behind = reads-right (step.Operate operator ∷ []) (operation_steps others) behind_term in
-    let next = λ (value : ℕ) (more : List ℕ). operations_value values others value more in
-    if_gives-then IsSmall IsSmall r.events r.end (λ right left. and_then (or_overflow (operator_value operator total right) left) next)
-    (term-small externs params values term replies (reads-left (term_steps term) (step.Operate operator ∷ operation_steps others) h))
-    (λ right left right_is.
-    let o = or_overflow (operator_value operator total right) left in
-    if_gives-then IsSmall IsSmall o.events o.end next (operator-small operator total right left small)
-    (λ value more value_is. operations-small externs params values others value more behind value_is))
-
-pub sum-small : (externs : List ExternFunction) (params : List (List ℕ)) (values : List ℕ → ℕ) (s : Sum) (replies : List ℕ) → ReadsSmall externs params values (sum_steps s) → IfGives IsSmall (sum_value values s replies).end
-sum-small externs params values (Terms first others) replies h =
-    let r = term_value values first replies in
-    if_gives-then IsSmall IsSmall r.events r.end (λ total left. operations_value values others total left)
-    (term-small externs params values first replies (reads-left (term_steps first) (operation_steps others) h))
-    (λ total left small. operations-small externs params values others total left (reads-right (term_steps first) (operation_steps others) h) small)
 
 args-more : (count n : ℕ) (numbers : List ℕ) → n < 2 ^ 32 → AreArgs count numbers → AreArgs (count + 1) (n ∷ numbers)
 args-more count n numbers small h =

@@ -1,8 +1,8 @@
 -- The names that a file's exports call: each call's name is among them, and each of them is the name of a call.
-use Rattle.std.proofs.Common.{ℕ, true, false, List, [], ◌∷◌, All}
+use Rattle.std.proofs.Common.{ℕ, true, false, List, [], ◌∷◌, ◌++◌, All}
 use Rattle.std.specs.List.{flat_map}
 use Rattle.std.proofs.lemmas.List.Elements.{All-nil, All-cons, All-head, All-tail, All-append}
-use Rattle.zw_form.specs.Trees.{Sum, Terms, Operations, NoMore, Then, Term, Parameter, Number, Result, Sums, NoSum, More, CallStatement, Body, count_of, sum_steps, operation_steps, term_steps, args_steps, statement_steps, body_steps, sum_callees, operation_callees, term_callees, args_callees, statement_callees, body_callees}
+use Rattle.zw_form.specs.Trees.{Sum, Parameter, Number, Operate, Result, Sums, NoSum, More, CallStatement, Body, count_of, sum_steps, args_steps, statement_steps, body_steps, sum_callees, args_callees, statement_callees, body_callees}
 use Rattle.zw_form.specs.declared.source.Step.{Step}
 use Rattle.zw_form.specs.declared.source.Step.TheVariants as step
 use Rattle.zw_lower.proofs.ListLemmas.{All-left, All-right}
@@ -17,23 +17,15 @@ OfCall P (step.Call callee) = P callee.name
 -- what holds of all names that are called holds of each call
 mutual
   sum_calls : (P : List ℕ → Type 0) (s : Sum) → All P (sum_callees s) → All (OfCall P) (sum_steps s)
-  sum_calls P (Terms first others) h =
-      All-append (OfCall P) (term_steps first) (operation_steps others)
-      (term_calls P first (All-left P (term_callees first) (operation_callees others) h))
-      (operation_calls P others (All-right P (term_callees first) (operation_callees others) h))
-
-  operation_calls : (P : List ℕ → Type 0) (o : Operations) → All P (operation_callees o) → All (OfCall P) (operation_steps o)
-  operation_calls P NoMore h = All-nil (OfCall P)
-  operation_calls P (Then operator term others) h =
-      All-append (OfCall P) (term_steps term) (step.Operate operator ∷ operation_steps others)
-      (term_calls P term (All-left P (term_callees term) (operation_callees others) h))
-      (All-cons (OfCall P) (step.Operate operator) (operation_steps others) tt
-      (operation_calls P others (All-right P (term_callees term) (operation_callees others) h)))
-
-  term_calls : (P : List ℕ → Type 0) (t : Term) → All P (term_callees t) → All (OfCall P) (term_steps t)
-  term_calls P (Parameter name) h = All-cons (OfCall P) (step.Parameter name) [] tt (All-nil (OfCall P))
-  term_calls P (Number n) h = All-cons (OfCall P) (step.Number n) [] tt (All-nil (OfCall P))
-  term_calls P (Result callee args) h =
+  sum_calls P (Parameter name) h = All-cons (OfCall P) (step.Parameter name) [] tt (All-nil (OfCall P))
+  sum_calls P (Number n) h = All-cons (OfCall P) (step.Number n) [] tt (All-nil (OfCall P))
+  sum_calls P (Operate operator left right) h =
+      All-append (OfCall P) (sum_steps left) (sum_steps right ++ step.Operate operator ∷ [])
+      (sum_calls P left (All-left P (sum_callees left) (sum_callees right) h))
+      (All-append (OfCall P) (sum_steps right) (step.Operate operator ∷ [])
+      (sum_calls P right (All-right P (sum_callees left) (sum_callees right) h))
+      (All-cons (OfCall P) (step.Operate operator) [] tt (All-nil (OfCall P))))
+  sum_calls P (Result callee args) h =
       let call = step.Call (record { name = callee; args = count_of args; has_result = true }) in
       All-append (OfCall P) (args_steps args) (call ∷ [])
       (args_calls P args (All-tail P callee (args_callees args) h))
@@ -70,23 +62,14 @@ body_calls P b h =
 -- and what holds of each call holds of all names that are called
 mutual
   sum_called : (P : List ℕ → Type 0) (s : Sum) → All (OfCall P) (sum_steps s) → All P (sum_callees s)
-  sum_called P (Terms first others) h =
-      All-append P (term_callees first) (operation_callees others)
-      (term_called P first (All-left (OfCall P) (term_steps first) (operation_steps others) h))
-      (operation_called P others (All-right (OfCall P) (term_steps first) (operation_steps others) h))
-
-  operation_called : (P : List ℕ → Type 0) (o : Operations) → All (OfCall P) (operation_steps o) → All P (operation_callees o)
-  operation_called P NoMore h = All-nil P
-  operation_called P (Then operator term others) h =
-      let behind = All-right (OfCall P) (term_steps term) (step.Operate operator ∷ operation_steps others) h in
-      All-append P (term_callees term) (operation_callees others)
-      (term_called P term (All-left (OfCall P) (term_steps term) (step.Operate operator ∷ operation_steps others) h))
-      (operation_called P others (All-tail (OfCall P) (step.Operate operator) (operation_steps others) behind))
-
-  term_called : (P : List ℕ → Type 0) (t : Term) → All (OfCall P) (term_steps t) → All P (term_callees t)
-  term_called P (Parameter name) h = All-nil P
-  term_called P (Number n) h = All-nil P
-  term_called P (Result callee args) h =
+  sum_called P (Parameter name) h = All-nil P
+  sum_called P (Number n) h = All-nil P
+  sum_called P (Operate operator left right) h =
+      let behind = All-right (OfCall P) (sum_steps left) (sum_steps right ++ step.Operate operator ∷ []) h in
+      All-append P (sum_callees left) (sum_callees right)
+      (sum_called P left (All-left (OfCall P) (sum_steps left) (sum_steps right ++ step.Operate operator ∷ []) h))
+      (sum_called P right (All-left (OfCall P) (sum_steps right) (step.Operate operator ∷ []) behind))
+  sum_called P (Result callee args) h =
       let call = step.Call (record { name = callee; args = count_of args; has_result = true }) in
       let here : P callee = All-head (OfCall P) call [] (All-right (OfCall P) (args_steps args) (call ∷ []) h) in
       All-cons P callee (args_callees args) here (args_called P args (All-left (OfCall P) (args_steps args) (call ∷ []) h))

@@ -5,9 +5,9 @@ use Rattle.std.specs.List.{flat_map}
 use Rattle.std.specs.Option.{option_to_list}
 use Rattle.std.proofs.lemmas.List.{reverse-append, replicate_more}
 use Rattle.std.proofs.lemmas.List.Concat.{flat_map-append}
-use Rattle.std.proofs.lemmas.List.Elements.{All-head, All-tail}
+use Rattle.std.proofs.lemmas.List.Elements.{All-head}
 use Rattle.zw_form.specs.Programs.{number_in, action_of}
-use Rattle.zw_form.specs.Trees.{Sum, Terms, Operations, NoMore, Then, Term, Parameter, Number, Result, Sums, NoSum, More, CallStatement, Body, count_of, sum_steps, operation_steps, term_steps, args_steps, statement_steps, body_steps}
+use Rattle.zw_form.specs.Trees.{Sum, Parameter, Number, Operate, Result, Sums, NoSum, More, CallStatement, Body, count_of, sum_steps, args_steps, statement_steps, body_steps}
 use Rattle.zw_form.specs.declared.source.Operator.{Operator}
 use Rattle.zw_form.specs.declared.source.Operator.TheVariants.{Add, Subtract, AddWrapping}
 use Rattle.zw_form.specs.declared.source.Step.{Step}
@@ -82,26 +82,19 @@ call_takes x k args has_result ts h =
 
 mutual
   sum_takes : (x : Context) (imports params : List (List ℕ)) (s : Sum) (ts : List ValType) → AreTyped x imports params (sum_steps s) → StepsTake x imports params (sum_steps s) ts (I32 ∷ ts)
-  sum_takes x imports params (Terms first others) ts h =
-      take_then x imports params (term_steps first) (operation_steps others) ts (I32 ∷ ts) (I32 ∷ ts)
-      (term_takes x imports params first ts (first_part (term_steps first) (operation_steps others) h))
-      (operations_take x imports params others ts (other_part (term_steps first) (operation_steps others) h))
-
-  operations_take : (x : Context) (imports params : List (List ℕ)) (o : Operations) (ts : List ValType) → AreTyped x imports params (operation_steps o) → StepsTake x imports params (operation_steps o) (I32 ∷ ts) (I32 ∷ ts)
-  operations_take x imports params NoMore ts h = takes-none x (I32 ∷ ts)
-  operations_take x imports params (Then operator term others) ts h =
-      let behind = other_part (term_steps term) (step.Operate operator ∷ operation_steps others) h in
-      let P = IsTyped x imports params in
-      let operated = operator_takes x (length params) operator ts (All-head P (step.Operate operator) (operation_steps others) behind.each) h.state in
-      let rest : AreTyped x imports params (operation_steps others) = record { state = h.state; each = All-tail P (step.Operate operator) (operation_steps others) behind.each } in
-      take_then x imports params (term_steps term) (step.Operate operator ∷ operation_steps others) (I32 ∷ ts) (I32 ∷ I32 ∷ ts) (I32 ∷ ts)
-      (term_takes x imports params term (I32 ∷ ts) (first_part (term_steps term) (step.Operate operator ∷ operation_steps others) h))
-      (takes-then operated (operations_take x imports params others ts rest))
-
-  term_takes : (x : Context) (imports params : List (List ℕ)) (t : Term) (ts : List ValType) → AreTyped x imports params (term_steps t) → StepsTake x imports params (term_steps t) ts (I32 ∷ ts)
-  term_takes x imports params (Parameter name) ts h = takes-local_get x (number_in params name) I32 ts (All-head (IsTyped x imports params) (step.Parameter name) [] h.each)
-  term_takes x imports params (Number n) ts h = takes-i32_const x _ ts
-  term_takes x imports params (Result callee args) ts h =
+  sum_takes x imports params (Parameter name) ts h = takes-local_get x (number_in params name) I32 ts (All-head (IsTyped x imports params) (step.Parameter name) [] h.each)
+  sum_takes x imports params (Number n) ts h = takes-i32_const x _ ts
+  sum_takes x imports params (Operate operator left right) ts h =
+      let operate = step.Operate operator ∷ [] in
+      let behind = other_part (sum_steps left) (sum_steps right ++ operate) h in
+      let last = other_part (sum_steps right) operate behind in
+      let operated = operator_takes x (length params) operator ts (All-head (IsTyped x imports params) (step.Operate operator) [] last.each) h.state in
+      take_then x imports params (sum_steps left) (sum_steps right ++ operate) ts (I32 ∷ ts) (I32 ∷ ts)
+      (sum_takes x imports params left ts (first_part (sum_steps left) (sum_steps right ++ operate) h))
+      (take_then x imports params (sum_steps right) operate (I32 ∷ ts) (I32 ∷ I32 ∷ ts) (I32 ∷ ts)
+      (sum_takes x imports params right (I32 ∷ ts) (first_part (sum_steps right) operate behind))
+      (takes-then operated (takes-none x (I32 ∷ ts))))
+  sum_takes x imports params (Result callee args) ts h =
       let call = step.Call (record { name = callee; args = count_of args; has_result = true }) in
       let behind = other_part (args_steps args) (call ∷ []) h in
       take_then x imports params (args_steps args) (call ∷ []) ts (replicate (count_of args) I32 ++ ts) (I32 ∷ ts)

@@ -1,5 +1,5 @@
 -- The module of a file is valid.
-use Rattle.std.proofs.Common.{◌≡◌, ℕ, zero, suc, ◌+◌, ◌≤◌, Bool, true, false, ◌&&◌, List, [], ◌∷◌, length, map, take, get_or, Option, Some, None, All, refl, sym, ap, ◌∙◌, subst, arith, length-append}
+use Rattle.std.proofs.Common.{◌≡◌, ℕ, zero, suc, ◌+◌, ◌*◌, ◌≤◌, Bool, true, false, ◌&&◌, List, [], ◌∷◌, length, map, take, get_or, Option, Some, None, All, refl, sym, ap, ◌∙◌, subst, arith, length-append}
 use Rattle.std.specs.Prelude.{slice_get, nat_lt, nat_eq}
 use Rattle.std.specs.List.{AllByRecursion, list_any}
 use Rattle.std.specs.Str.{bytes_eq}
@@ -7,8 +7,9 @@ use Rattle.std.proofs.lemmas.Bool.{cond-true, lt-ltb, le-leb, eq-eqb, and_from, 
 use Rattle.std.proofs.lemmas.List.{length-map}
 use Rattle.std.proofs.lemmas.List.Elements.{All-from_recursion, All-map, All-head, All-tail}
 use Rattle.zw_form.specs.Form.{IsSmall}
+use Rattle.zw_form.specs.Members.{weight_of}
 use Rattle.zw_form.specs.Programs.{called_in, function_of}
-use Rattle.zw_form.specs.Rules.{KeepsRules, externs_of, exports_of, params_of}
+use Rattle.zw_form.specs.Rules.{KeepsRules, externs_of, exports_of}
 use Rattle.zw_form.specs.Trees.{Tree, Extern, Export, declaration_of}
 use Rattle.zw_form.specs.declared.program.Function.{Function}
 use Rattle.zw_form.specs.declared.program.Import.{Import}
@@ -53,12 +54,12 @@ numbers_pass n j k (x ∷ xs) h =
 
 -- ---- the memory
 
-few_params : (imports : List (List ℕ)) (trees : List Tree) → All (λ (t : Tree). length (params_of (declaration_of t)) ≤ 65536) trees → most_params (map (function_of imports) (exports_of (map declaration_of trees))) ≤ 65536
+few_params : (imports : List (List ℕ)) (trees : List Tree) → All (λ (t : Tree). weight_of (declaration_of t) ≤ 131072) trees → most_params (map (function_of imports) (exports_of (map declaration_of trees))) ≤ 65536
 few_params imports [] h = omega arith
-few_params imports (Extern f ∷ trees) h = few_params imports trees (All-tail (λ (t : Tree). length (params_of (declaration_of t)) ≤ 65536) (Extern f) trees h)
+few_params imports (Extern f ∷ trees) h = few_params imports trees (All-tail (λ (t : Tree). weight_of (declaration_of t) ≤ 131072) (Extern f) trees h)
 few_params imports (Export name params body ∷ trees) h =
-    let P : Tree → Type 0 = λ t. length (params_of (declaration_of t)) ≤ 65536 in
-    let here : length params ≤ 65536 = All-head P (Export name params body) trees h in
+    let P : Tree → Type 0 = λ t. weight_of (declaration_of t) ≤ 131072 in
+    let here : 8 * length params ≤ 131072 = All-head P (Export name params body) trees h in
     let others = few_params imports trees (All-tail P (Export name params body) trees h) in
     omega (arith, here, others)
 
@@ -171,5 +172,5 @@ module_valid trees rules small =
     let p = file_program trees in
     let m = file_module trees in
     let differ : Differ (map (λ (e : ExportDef). e.name) m.exports) = subst Differ (sym (module_exports file)) (exported_names_differ file rules) in
-    let outer = outside_valid p (few_params (called_in file) trees small.params_are_few) differ in
+    let outer = outside_valid p (few_params (called_in file) trees small.weights_are_small) differ in
     record { none = ap (λ o. or_then o (bodies_violation m 0 m.codes)) outer ∙ bodies_valid trees rules }

@@ -2,7 +2,6 @@
 use Rattle.std.proofs.Common.{◌≡◌, ℕ, suc, ◌<◌, ◌^◌, Bool, true, false, cond, List, [], ◌∷◌, length, map, codes, All, IsUtf8, refl, sym, ◌∙◌, subst, lit<}
 use Rattle.std.specs.Prelude.{nat_lt}
 use Rattle.std.specs.List.{AllByRecursion, flat_map, list_all, list_any}
-use Rattle.std.specs.Str.{IsAscii}
 use Rattle.std.proofs.lemmas.Bool.Decides.{Decides-by_and, Decides-ltb}
 use Rattle.std.proofs.lemmas.List.{length-map}
 use Rattle.std.proofs.lemmas.List.Elements.{All-contains, All-map, All-weaker, recursion_from_All}
@@ -10,7 +9,7 @@ use Rattle.std.proofs.lemmas.Str.{IsUtf8-from_ascii}
 use Rattle.std.proofs.lemmas.Str.Ascii.{IsAscii-from_all}
 use Rattle.zw_form.specs.Form.{IsSmall}
 use Rattle.zw_form.specs.Programs.{called_in, import_named, function_of}
-use Rattle.zw_form.specs.Rules.{KeepsRules, name_of, externs_of, exports_of}
+use Rattle.zw_form.specs.Rules.{KeepsRules, name_of, externs_of, exports_of, KeepsNames}
 use Rattle.zw_form.specs.Trees.{Tree, declaration_of}
 use Rattle.zw_form.specs.declared.program.Action.{Action}
 use Rattle.zw_form.specs.declared.program.Action.TheVariants as action
@@ -75,17 +74,15 @@ states_have_bytes : AllByRecursion IsWellFormedExport state_exports
 states_have_bytes =
     ((is_text (codes "memory") refl, lit< tt), ((is_text (codes "panic_cause") refl, lit< tt), ((is_text (codes "panic_ptr") refl, lit< tt), ((is_text (codes "panic_len") refl, lit< tt), tt))))
 
-names_are_texts : (trees : List Tree) → IsSmall trees → All IsUtf8 (map name_of (map declaration_of trees))
-names_are_texts trees small =
-    let P : Tree → Type 0 = λ t. IsAscii (name_of (declaration_of t)) in
-    let Q : Tree → Type 0 = λ t. IsUtf8 (name_of (declaration_of t)) in
-    let texts = All-weaker P Q (λ t ascii. IsUtf8-from_ascii (name_of (declaration_of t)) ascii) trees small.names_are_ascii in
-    All-map IsUtf8 name_of (map declaration_of trees) (All-map (λ d. IsUtf8 (name_of d)) declaration_of trees texts)
+names_are_texts : (trees : List Tree) → KeepsRules (map declaration_of trees) → All IsUtf8 (map name_of (map declaration_of trees))
+names_are_texts trees rules =
+    let file = map declaration_of trees in
+    All-map IsUtf8 name_of file (All-weaker (KeepsNames (map name_of file)) (λ d. IsUtf8 (name_of d)) (λ d names. names.name_is_text) file rules.names)
 
 called_are_texts : (trees : List Tree) → KeepsRules (map declaration_of trees) → IsSmall trees → AllByRecursion IsUtf8 (called_in (map declaration_of trees))
 called_are_texts trees rules small =
     let file = map declaration_of trees in
-    let text = λ (name : List ℕ) (is : IsNameOf (externs_of file) name). subst IsUtf8 (sym is.name_is) (All-contains IsUtf8 (map name_of file) is.function.name (names_are_texts trees small) (extern_is_named file is.function is.there)) in
+    let text = λ (name : List ℕ) (is : IsNameOf (externs_of file) name). subst IsUtf8 (sym is.name_is) (All-contains IsUtf8 (map name_of file) is.function.name (names_are_texts trees rules) (extern_is_named file is.function is.there)) in
     recursion_from_All IsUtf8 (called_in file) (All-weaker (IsNameOf (externs_of file)) IsUtf8 text (called_in file) (called_are_externs trees rules))
 
 imports_have_bytes : (k : ℕ) (externs : List ExternFunction) (names : List (List ℕ)) → AllByRecursion IsUtf8 names → AllByRecursion HasNames (imports_from k (map (import_named externs) names))
@@ -102,7 +99,7 @@ pub module_well_formed : (trees : List Tree) → KeepsRules (map declaration_of 
 module_well_formed trees rules small =
     let file = map declaration_of trees in
     let p = file_program trees in
-    let names = exports_are IsUtf8 file (recursion_from_All IsUtf8 (map name_of file) (names_are_texts trees small)) in
+    let names = exports_are IsUtf8 file (recursion_from_All IsUtf8 (map name_of file) (names_are_texts trees rules)) in
     let exported = exports_have_bytes (length p.imports) (called_in file) (exports_of file) names in
     record {
       same_count = length-numbers_from (length p.imports) p.functions ∙ sym (length-map p.functions body_of);

@@ -1,6 +1,6 @@
 -- What is asked of steps and of a configuration before their code runs, for parts of the steps and further on.
-use Rattle.std.proofs.Common.{◌≡◌, ℕ, ◌+◌, ◌≤◌, true, List, ◌++◌, length, sym, ◌∙◌, subst, All, Contains}
-use Rattle.std.proofs.lemmas.List.Elements.{All-weaker}
+use Rattle.std.proofs.Common.{◌≡◌, ℕ, ◌+◌, ◌≤◌, true, List, [], ◌++◌, length, sym, ◌∙◌, subst, All, Contains}
+use Rattle.std.proofs.lemmas.List.Elements.{All-nil, All-weaker}
 use Rattle.zw_form.specs.Form.{FitsStep}
 use Rattle.zw_form.specs.Programs.{number_in, action_of}
 use Rattle.zw_form.specs.Rules.{IsKnown}
@@ -74,6 +74,16 @@ ready-args {externs = externs} {imports = imports} {params = params} {values = v
   fits = All-left FitsStep steps others h.fits;
   called = All-right (Contains imports) callees more h.called;
   at = placed-left imports params values steps others c h.at;
+}
+
+-- the last steps call nothing
+pub ready-last : {m : Module} {v : View} {externs : List ExternFunction} {imports params : List (List ℕ)} {values : List ℕ → ℕ} {c : Config} → (steps others : List Step) (callees : List (List ℕ)) → Ready m v externs imports params values (steps ++ others) callees c → Ready m v externs imports params values others [] c
+ready-last {externs = externs} {imports = imports} {params = params} {values = values} {c = c} steps others callees h = record {
+  imported = h.imported;
+  known = All-right (IsKnown externs params) steps others h.known;
+  fits = All-right FitsStep steps others h.fits;
+  called = All-nil (Contains imports);
+  at = placed-right imports params values steps others c h.at;
 }
 
 pub ready-on : {m : Module} {v : View} {externs : List ExternFunction} {imports params : List (List ℕ)} {values : List ℕ → ℕ} {steps : List Step} {callees : List (List ℕ)} {c : Config} → (events : List HostEvent) (left : List ℕ) (locals : List Num) → Ready m v externs imports params values steps callees c → KeepsOthers (length params) c.frame.locals locals → Ready m v externs imports params values steps callees (gone_on events left locals c)

@@ -1,9 +1,9 @@
 // The kinds of rows: one module for each, and one arm.
 mod command;
-mod form;
 mod num;
 mod session;
 mod tokens;
+mod trees;
 mod values;
 
 use crate::fields::Field;
@@ -28,9 +28,9 @@ pub fn check(alloc: Global, fields: &[Field<'_>]) -> Result<Report, Mistake> {
         "texts" => values::check_texts(alloc, fields),
         "names" => tokens::check_names(alloc, fields),
         "tables" => tokens::check_tables(alloc, fields),
-        "grammar" => form::check_grammar(alloc, head, fields),
-        "program" => form::check_program(alloc, head, fields),
         "num" => num::check_num(alloc, fields),
+        "trees" => trees::check_trees(alloc, head, fields),
+        "tree-stops" => trees::check_stops(alloc, fields),
         _ => Err(head.wrong(Problem::UnknownKind)),
     }
 }

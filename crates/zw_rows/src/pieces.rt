@@ -12,10 +12,8 @@ pub fn is_piece(word: &str) -> bool {
 
 /// Whether bytes may stand below a line that begins with this word, a row's head or a field.
 pub fn takes_bytes(word: &str) -> bool {
-    matches!(
-        word,
-        "bytes" | "build" | "session" | "grammar" | "program" | "tokens"
-    ) || matches!(word, "file" | "input" | "out" | "ends" | "diag" | "left")
+    matches!(word, "bytes" | "build" | "session" | "tokens" | "trees")
+        || matches!(word, "file" | "input" | "out" | "ends" | "diag" | "left")
 }
 
 /// Adds what a piece spells.

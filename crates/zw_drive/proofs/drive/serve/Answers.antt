@@ -1,6 +1,7 @@
 use Rattle.std.proofs.Common.{sym}
 use Rattle.zw_drive.proofs.ServeLemmas.{serves_usage, serves_build}
 use Rattle.zw_drive.proofs.BlameLemmas.{tree_blamed, out_blamed}
+use Rattle.zw_drive.proofs.ValidateLemmas.{serves_validate, tree_blamed_validate, out_blamed_validate}
 use Rattle.zw_drive.proofs.drive.serve.Goals as goal
 
 pub returns-in-Unknown-clause-serves : goal.returns-in-Unknown-clause-serves
@@ -18,3 +19,15 @@ returns-in-Build-clause-tree_blamed g c =
 pub returns-in-Build-clause-out_blamed : goal.returns-in-Build-clause-out_blamed
 returns-in-Build-clause-out_blamed g c =
     out_blamed _ _ _ _ _ _ _ _ (g.D.Sink.taken c.args.diag.now) (g.D.Sink.taken c.report.new.diag) c.report.result c.build-built.ensures.ends c.build-built.ensures.out_cause c.report.ensures.reports
+
+pub returns-in-Validate-clause-serves : goal.returns-in-Validate-clause-serves
+returns-in-Validate-clause-serves g c =
+    serves_validate c.args.words.now c.in-Validate.file.now _ _ _ _ _ _ _ _ c.validate-validated.ensures.ends (sym c.in-Validate.ensures) c.report_validated.ensures.reports
+
+pub returns-in-Validate-clause-tree_blamed : goal.returns-in-Validate-clause-tree_blamed
+returns-in-Validate-clause-tree_blamed g c =
+    tree_blamed_validate _ _ c.in-Validate.file.now c.validate-validated.result (g.D.Sink.taken c.args.diag.now) (g.D.Sink.taken c.report_validated.new.diag) c.report_validated.result c.validate-validated.ensures.tree_cause c.report_validated.ensures.reports
+
+pub returns-in-Validate-clause-out_blamed : goal.returns-in-Validate-clause-out_blamed
+returns-in-Validate-clause-out_blamed g c =
+    out_blamed_validate _ _ c.in-Validate.file.now c.validate-validated.result (g.D.Sink.taken c.args.diag.now) (g.D.Sink.taken c.report_validated.new.diag) c.report_validated.result c.validate-validated.ensures.out_cause c.report_validated.ensures.reports

@@ -1,5 +1,6 @@
-use Rattle.zw_form.proofs.FormLemmas.{HasForm-same}
+use Rattle.zw_parse.proofs.SyntaxLemmas.{tree_once, stop_once, tree_not_stop}
+use Rattle.zw_form.proofs.FormLemmas.{one_form-of}
 use Rattle.zw_form.proofs.laws.one_form.Goals as goal
 
 pub returns : goal.returns
-returns c = λ text a b g h. HasForm-same text a b g h
+returns c = one_form-of tree_once stop_once tree_not_stop

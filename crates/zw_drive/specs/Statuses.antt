@@ -1,0 +1,14 @@
+-- The numbers of statuses. This project's own.
+use Rattle.std.specs.Prelude.{ℕ}
+use Rattle.zw_drive.specs.declared.status.Status.{Status}
+use Rattle.zw_drive.specs.declared.status.Status.TheVariants as statuses
+
+abbrev pub code_of : Status → ℕ
+code_of statuses.Done = 0
+code_of statuses.Stopped = 1
+code_of statuses.Usage = 2
+code_of statuses.Invalid = 6
+code_of statuses.TreeFault = 7
+code_of statuses.OutFault = 9
+code_of statuses.DiagFault = 10
+code_of statuses.OutOfMemory = 11

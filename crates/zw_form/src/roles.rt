@@ -1,0 +1,54 @@
+// The parts that nodes have in the form.
+ghost use Rattle.std.specs.Prelude.{◌≡◌};
+ghost use Rattle.zw_form.specs.Nodes.{role_of};
+
+use crate::Operator;
+use zw_tree::NodeKind;
+
+/// What a node is in the form.
+#[derive(Clone, Copy, Debug, PartialEq, Eq)]
+pub(crate) enum Role {
+    Function,
+    /// `extern`
+    Extern,
+    /// `export`
+    Export,
+    /// A name that is introduced.
+    Name,
+    QuotedName,
+    Parameter,
+    Block,
+    Return,
+    Call,
+    Operator(Operator),
+    /// A name that is mentioned.
+    Identifier,
+    QuotedIdentifier,
+    Number,
+    /// A node that isn't of the form.
+    Other,
+}
+
+/// What a node of this kind is in the form.
+pub(crate) fn role_of(kind: NodeKind) -> Role
+    ensures { result ≡ role_of kind }
+{
+    match kind {
+        NodeKind::Function => Role::Function,
+        NodeKind::ExternWord => Role::Extern,
+        NodeKind::ExportWord => Role::Export,
+        NodeKind::Name => Role::Name,
+        NodeKind::QuotedName => Role::QuotedName,
+        NodeKind::Parameter => Role::Parameter,
+        NodeKind::Block => Role::Block,
+        NodeKind::Return => Role::Return,
+        NodeKind::Call => Role::Call,
+        NodeKind::Add => Role::Operator(Operator::Add),
+        NodeKind::Subtract => Role::Operator(Operator::Subtract),
+        NodeKind::AddWrap => Role::Operator(Operator::AddWrapping),
+        NodeKind::Identifier => Role::Identifier,
+        NodeKind::QuotedIdentifier => Role::QuotedIdentifier,
+        NodeKind::Number => Role::Number,
+        _ => Role::Other,
+    }
+}
