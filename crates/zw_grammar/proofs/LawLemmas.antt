@@ -1,11 +1,13 @@
 -- Laws of reading.
-use Rattle.std.proofs.Common.{◌≡◌, ℕ, zero, suc, ◌<◌, ◌≤◌, List, [], ◌∷◌, ◌++◌, take, drop, Option, Some, None, refl, sym, ap, ◌∙◌, subst, append_assoc, arith, inl, inr}
+use Rattle.std.proofs.Common.{◌≡◌, ℕ, zero, suc, ◌<◌, ◌≤◌, List, [], ◌∷◌, ◌++◌, take, drop, Option, Some, None, refl, sym, ap, ◌∙◌, subst, append_assoc, arith, ◌⊎◌, inl, inr}
+use Rattle.std.proofs.lemmas.Bool.{cases_lt}
 use Rattle.zw_grammar.specs.declared.grammar.Symbol.{Symbol}
 use Rattle.zw_grammar.specs.Plain.{PlainRule}
 use Rattle.zw_grammar.specs.Building.{Building}
-use Rattle.zw_grammar.specs.Reading.{Reading}
+use Rattle.zw_grammar.specs.Reading.{Reading, Leads, after, step}
+use Rattle.zw_grammar.specs.Reading.Leads.{here}
 use Rattle.zw_grammar.specs.Texts.{begins, Reads, GoesOn, IsWrong, IsNested}
-use Rattle.zw_grammar.proofs.LeadLemmas.{one_way, no_way}
+use Rattle.zw_grammar.proofs.LeadLemmas.{one_way, no_way, leads_next}
 use Rattle.zw_grammar.proofs.PassedLemmas.{leads_keeps}
 
 pub one_final : (rules : List PlainRule) (start : List Symbol) (text : List ℕ) (from to other : ℕ) (b c : Building) →
@@ -77,3 +79,45 @@ nested_once rules start text from place other n m =
       | inl p ↦ same m.reading.building.passed ((leads_keeps rules text n.reading m.reading p).stays place n.passed) m.passed
       | inr p ↦ same n.reading.building.passed n.passed ((leads_keeps rules text m.reading n.reading p).stays other m.passed)
     ]
+
+-- where a reading can't go on, each place that begins the first rule nested too deep is known by then
+nested_leads : (rules : List PlainRule) (start : List Symbol) (text : List ℕ) (from place : ℕ) (r : Reading) → Leads rules text (begins start from) r → after rules text r ≡ None →
+    (n : IsNested rules start text from place) → Leads rules text n.reading r
+nested_leads rules start text from place r leads stuck n = elim (one_way rules text (begins start from) r n.reading leads n.leads) [
+  | inl p ↦ subst (λ (q : Reading). Leads rules text q r) (no_way rules text r n.reading stuck p) (here r)
+  | inr p ↦ p
+]
+
+-- so a rule is nested too deep, or none is
+pub nested_or_flat : (rules : List PlainRule) (start : List Symbol) (text : List ℕ) (from : ℕ) (r : Reading) → Leads rules text (begins start from) r → after rules text r ≡ None →
+    ((place : ℕ) × IsNested rules start text from place) ⊎ ((other : ℕ) → IsNested rules start text from other → ⊥)
+nested_or_flat rules start text from r leads stuck = go r.building.passed refl
+  where
+    Answer : Type 0
+    Answer = ((place : ℕ) × IsNested rules start text from place) ⊎ ((other : ℕ) → IsNested rules start text from other → ⊥)
+
+    stays : (other : ℕ) → IsNested rules start text from other → r.building.passed ≡ Some other
+    stays other n = (leads_keeps rules text n.reading r (nested_leads rules start text from other r leads stuck n)).stays other n.passed
+
+    late : (place : ℕ) → r.building.passed ≡ Some place → r.next ≤ place → (r.stack ≡ [] → ⊥) → (other : ℕ) → IsNested rules start text from other → ⊥
+    late place e far unread other n =
+        let p = nested_leads rules start text from other r leads stuck n in
+        let same = some_same other place r.building.passed (stays other n) e in
+        let order = leads_next rules text n.reading r p in
+        elim n.taken [
+          | inl before ↦ omega arith
+          | inr empty ↦
+              let ends : after rules text n.reading ≡ None = ap (λ (l : List Symbol). step rules text l n.reading.next n.reading.building) empty in
+              unread (sym (ap (λ (q : Reading). q.stack) (no_way rules text n.reading r ends p)) ∙ empty)
+        ]
+
+    left : (place : ℕ) → r.building.passed ≡ Some place → (s : List Symbol) → r.stack ≡ s → Answer
+    left place e [] empty = inl (place, record { reading = r; leads = leads; passed = e; taken = inr empty })
+    left place e (x ∷ xs) some = elim (cases_lt place r.next) [
+      | inl before ↦ inl (place, record { reading = r; leads = leads; passed = e; taken = inl before })
+      | inr far ↦ inr (late place e far (λ empty. let clash : x ∷ xs ≡ [] = sym some ∙ empty in cc))
+    ]
+
+    go : (o : Option ℕ) → r.building.passed ≡ o → Answer
+    go None e = inr (λ other n. let no : None ≡ Some other = sym e ∙ stays other n in cc)
+    go (Some place) e = left place e r.stack refl

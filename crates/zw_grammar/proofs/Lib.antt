@@ -1,6 +1,7 @@
 pub mod NodeLemmas
 pub mod ReadingLemmas
 pub mod StepLemmas
+pub mod PlaceLemmas
 pub mod TreeLemmas
 pub mod LeadLemmas
 pub mod PassedLemmas
@@ -9,6 +10,7 @@ pub mod EndLemmas
 pub mod LawLemmas
 pub mod BalanceLemmas
 pub mod OrderLemmas
+pub mod SizeLemmas
 pub mod TakeLemmas
 pub mod Variants
 pub mod VariantLemmas

@@ -1,6 +1,7 @@
 pub mod Plain
 pub mod Building
 pub mod Reading
+pub mod Places
 pub mod Texts
 pub mod Grammars
 pub mod Nodes
@@ -9,3 +10,4 @@ pub mod Completions
 pub mod Ends
 pub mod Orders
 pub mod Balances
+pub mod Sizes

@@ -1,10 +1,12 @@
 // Laws of reading by a grammar.
-ghost use Rattle.std.specs.Prelude.{◌≡◌, ℕ, List, [], None};
+ghost use Rattle.std.specs.Prelude.{◌≡◌, ℕ, ◌+◌, ◌*◌, ◌≤◌, List, [], None, length};
 ghost use Rattle.zw_grammar.specs.declared.grammar.Symbol.{Symbol};
 ghost use Rattle.zw_grammar.specs.Balances.{Balances};
 ghost use Rattle.zw_grammar.specs.Building.{Building};
+ghost use Rattle.zw_grammar.specs.Nodes.{all_nodes};
 ghost use Rattle.zw_grammar.specs.Orders.{AreInOrder};
 ghost use Rattle.zw_grammar.specs.Plain.{PlainRule};
+ghost use Rattle.zw_grammar.specs.Sizes.{AreSmall};
 ghost use Rattle.zw_grammar.specs.Texts.{Reads, IsWrong, IsNested};
 
 /// A text is read in one way at most: up to one terminal, with one tree.
@@ -37,4 +39,10 @@ pub fn one_nested()
 pub fn nodes_in_order()
     ensures { (rules : List PlainRule) (start : List Symbol) (text : List ℕ) (from to : ℕ) (b : Building) →
         Balances rules start → Reads rules start text from to b → (b.begun ≡ []) × AreInOrder from b.ended to }
+{}
+
+/// By rules that have at most so many nodes for each terminal, a text that is read has at most so many for each of its terminals.
+pub fn nodes_are_few()
+    ensures { (rules : List PlainRule) (start : List Symbol) (text : List ℕ) (from to each : ℕ) (b : Building) →
+        AreSmall rules start each → Reads rules start text from to b → length (all_nodes b.begun b.ended) + from * each ≤ to * each }
 {}

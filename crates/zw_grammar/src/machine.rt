@@ -1,14 +1,15 @@
 // The machine that reads by a grammar, with a stack of its own.
-ghost use Rattle.std.specs.Prelude.{◌≡◌, ℕ, ◌<◌, ◌^◌, ◌++◌, length, map, reverse, OnOk, IfOk, IsTrue, MatchOption, Some, None};
+ghost use Rattle.std.specs.Prelude.{◌≡◌, ℕ, ◌<◌, ◌^◌, ◌++◌, length, reverse, OnOk, IfOk, IsTrue};
 ghost use Rattle.zw_grammar.specs.Building.{Building, nothing};
 ghost use Rattle.zw_grammar.specs.Grammars.{all_end};
 ghost use Rattle.zw_grammar.specs.Nodes.{Holds};
-ghost use Rattle.zw_grammar.specs.Plain.{plain, plain_alternative};
-ghost use Rattle.zw_grammar.specs.Reading.{is_first, first_choice, choice};
+ghost use Rattle.zw_grammar.specs.Places.{all_places};
+ghost use Rattle.zw_grammar.specs.Plain.{plain};
 ghost use Rattle.zw_grammar.specs.Turns.{Turns, end_of, reading};
 ghost use Rattle.zw_grammar.specs.Ends.{IsText, Ends};
 
-use crate::{Alternative, Builder, Rule, Symbol};
+use crate::places::{all_places, choose};
+use crate::{Builder, Rule, Symbol};
 use std::alloc::Global;
 use zw_base::Oom;
 
@@ -32,35 +33,6 @@ enum Turn {
     Behind,
 }
 
-// Whether a terminal is one of these, or there are none.
-fn is_first(first: &[u8], terminal: u8) -> bool
-    ensures { result ≡ is_first first.now terminal }
-{
-    first.is_empty() || first.contains(&terminal)
-}
-
-// What the first of these alternatives reads that the terminal chooses.
-fn first_choice(alternatives: &[Alternative], terminal: u8) -> Option<&'static [Symbol]>
-    ensures { MatchOption result (first_choice (map plain_alternative alternatives.now) terminal ≡ None)
-        (λ symbols. first_choice (map plain_alternative alternatives.now) terminal ≡ Some symbols.now) }
-{
-    for alternative in alternatives {
-        if is_first(alternative.first, terminal) {
-            return Some(alternative.symbols);
-        }
-    }
-    None
-}
-
-// What the rule with this number reads before this terminal.
-fn choose(rules: &[Rule], number: u8, terminal: u8) -> Option<&'static [Symbol]>
-    ensures { MatchOption result (choice (plain rules.now) number terminal ≡ None)
-        (λ symbols. choice (plain rules.now) number terminal ≡ Some symbols.now) }
-{
-    let rule = rules.get(number as usize)?;
-    first_choice(rule.alternatives, terminal)
-}
-
 // Puts these symbols onto the stack, the first on top.
 fn push_all(stack: &mut Vec<Symbol>, mut symbols: &[Symbol]) -> Result<(), Oom>
     ensures { OnOk result (stack.new.items ≡ stack.old.items ++ reverse symbols.entry.now) }
@@ -75,12 +47,14 @@ fn push_all(stack: &mut Vec<Symbol>, mut symbols: &[Symbol]) -> Result<(), Oom>
 // Reads up to the terminal with this number, and takes it.
 fn take_next(
     rules: &[Rule],
+    places: &[u8],
     terminals: &[u8],
     at: usize,
     stack: &mut Vec<Symbol>,
     into: &mut Builder,
 ) -> Result<Turn, Oom>
     requires ends { IsTrue (all_end (plain rules.now) (plain rules.now)) }
+    requires places { places.now ≡ all_places (plain rules.now) }
     requires within { at < length terminals.now }
     requires length { length terminals.now < 2 ^ 32 }
     ensures { IfOk result (λ turn. (b : Building) → Holds into.old b →
@@ -96,7 +70,7 @@ fn take_next(
                     Turn::Refused
                 });
             }
-            Symbol::Read(number) => match choose(rules, number, terminal) {
+            Symbol::Read(number) => match choose(rules, places, number, terminal) {
                 Some(symbols) => push_all(stack, symbols)?,
                 None => return Ok(Turn::Refused),
             },
@@ -139,10 +113,11 @@ pub fn read(
     requires fresh { Holds into.old nothing }
     ensures { IfOk result (λ end. Ends (plain rules.now) start.now terminals.now from into.new end) }
 {
+    let places = all_places(alloc, rules)?;
     let mut stack = Vec::new(alloc);
     push_all(&mut stack, start)?;
     for at in from..terminals.len() {
-        let turn = take_next(rules, terminals, at, &mut stack, into)?;
+        let turn = take_next(rules, &places, terminals, at, &mut stack, into)?;
         if let Some(end) = end_of(turn, into.passed(), at as u32) {
             return Ok(end);
         }

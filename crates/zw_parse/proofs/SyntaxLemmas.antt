@@ -1,5 +1,5 @@
 -- Files and their trees.
-use Rattle.std.proofs.Common.{◌≡◌, ℕ, zero, suc, ◌+◌, ◌-◌, ◌<◌, ◌≤◌, List, [], ◌∷◌, ◌++◌, length, drop, get_or, All, AllPairs, Bool, true, false, nat_lt, length-append, refl, sym, ap, ◌∙◌, subst, arith}
+use Rattle.std.proofs.Common.{◌≡◌, ℕ, zero, suc, ◌+◌, ◌-◌, ◌*◌, ◌<◌, ◌≤◌, ◌⊎◌, inl, inr, List, [], ◌∷◌, ◌++◌, length, drop, get_or, All, AllPairs, Bool, true, false, nat_lt, length-append, refl, sym, ap, ◌∙◌, subst, arith}
 use Rattle.std.proofs.lemmas.Grind.{common_steps}
 use Rattle.zw_base.specs.declared.stop.Refused.TheVariants as refused
 use Rattle.zw_base.specs.declared.stop.Stop.{Stop}
@@ -9,20 +9,24 @@ use Rattle.zw_token.specs.Tokens.TokensFrom.{last, more}
 use Rattle.zw_token.specs.declared.token.Token.{Token}
 use Rattle.zw_token.proofs.Lists.{gap_ordered, stands_size}
 use Rattle.zw_tree.specs.Trees.{Forest, none, tree, count, trees, preorder, map_forest}
+use Rattle.zw_tree.proofs.Subtrees.{count-map}
 use Rattle.zw_tree.specs.declared.ast.Entry.{Entry}
 use Rattle.zw_tree.specs.declared.kind.NodeKind.TheVariants.{Root}
-use Rattle.zw_grammar.specs.Building.{Span, Building, enclosed}
+use Rattle.zw_grammar.specs.Building.{Span, Begun, Building, enclosed}
 use Rattle.zw_grammar.specs.Nodes.{built, nodes, all_nodes, Holds}
 use Rattle.zw_grammar.specs.Orders.{AreInOrder}
 use Rattle.zw_grammar.specs.declared.builder.Built.{Built}
 use Rattle.zw_grammar.specs.declared.builder.Builder.{Builder}
 use Rattle.zw_grammar.specs.declared.machine.End.{End}
 use Rattle.zw_grammar.specs.declared.machine.End.TheVariants as ends
+use Rattle.zw_grammar.proofs.NodeLemmas.{length-nodes}
 use Rattle.zw_grammar.proofs.OrderLemmas.{read_in_order, order_later, order_le}
 use Rattle.zw_parse_expr.specs.Files.{IsFile, FileEnds}
 use Rattle.zw_parse_expr.specs.Lexemes.{Lexeme, lexemes, lexeme_of}
 use Rattle.zw_parse_expr.proofs.Balance.{file_balances}
-use Rattle.zw_parse_expr.proofs.FileLemmas.{one_file, file_not_wrong, file_not_nested, one_wrong_file, one_nested_file}
+use Rattle.zw_parse_expr.proofs.FileLemmas.{one_file, file_not_wrong, file_not_nested, file_or_stopped, one_wrong_file, one_nested_file}
+use Rattle.zw_parse_expr.proofs.Smallness.{few_nodes}
+use Rattle.zw_parse_expr.proofs.TokenLemmas.{ends_once}
 use Rattle.zw_parse.specs.Entries.{entry_at, first_start, IsWithin}
 use Rattle.zw_parse.specs.Order.{IsTree}
 use Rattle.zw_parse.specs.Syntax.{IsTreeOf, IsSyntaxStop, IsSyntaxRefusal, span_in, tree_of_file, stop_of}
@@ -108,6 +112,22 @@ listed text tokens list final builder b f same holds lists =
       within = subst (All (IsWithin tokens)) (sym whole) (nodes_within tokens 0 (tree_of_file (lexemes text tokens) b) (length (lexemes text tokens)) (tree_order (lexemes text tokens) b f) (omega arith));
     }
 
+-- a tree has fewer than two nodes for each token
+few_in_file : (list : List Lexeme) (b : Building) → IsFile list b → count (tree_of_file list b) < 2 * length list
+few_in_file list b f =
+    let some = some_lexemes list b f in
+    let same : all_nodes b.begun b.ended ≡ nodes b.ended = ap (λ (l : List Begun). all_nodes l b.ended) (file_order list b f).0 in
+    omega (arith, few_nodes list b f, ap length same, length-nodes b.ended)
+
+pub few_listed : (text : List ℕ) (tokens : List Token) (list : List Built) (b : Building) → IsFile (lexemes text tokens) b → IsTree list (tree_of_file (lexemes text tokens) b) → length list < 2 * length tokens
+few_listed text tokens list b f t =
+    omega (arith, few_in_file (lexemes text tokens) b f, ap length t.listed, length-nodes (tree_of_file (lexemes text tokens) b), length-map tokens (lexeme_of text))
+
+pub few_of_tree : (file : ℕ) (text : List ℕ) (tokens : List Token) (forest : Forest Entry) → IsTreeOf file text tokens forest → count forest < 2 * length tokens
+few_of_tree file text tokens forest t =
+    let list = lexemes text tokens in
+    omega (arith, few_in_file list t.building t.reads, ap count t.is, count-map (entry_at file text tokens) (tree_of_file list t.building), length-map tokens (lexeme_of text))
+
 pub tree_once : (file : ℕ) (text : List ℕ) (tokens : List Token) (a b : Forest Entry) → IsTreeOf file text tokens a → IsTreeOf file text tokens b → a ≡ b
 tree_once file text tokens a b t u =
     let same = one_file (lexemes text tokens) t.building u.building t.reads u.reads in
@@ -116,6 +136,18 @@ tree_once file text tokens a b t u =
 pub tree_not_stop : (file : ℕ) (text : List ℕ) (tokens : List Token) (forest : Forest Entry) (stop : Stop) → IsTreeOf file text tokens forest → IsSyntaxStop file text tokens stop → ⊥
 tree_not_stop file text tokens forest stop t (wrong number w flat is) = file_not_wrong (lexemes text tokens) t.building number t.reads w
 tree_not_stop file text tokens forest stop t (nested number n is) = file_not_nested (lexemes text tokens) t.building number t.reads t.flat n
+
+-- the tokens of a text have a tree or a stop
+pub tree_or_stop : (file : ℕ) (text : List ℕ) (tokens : List Token) → Tokens text tokens → ((forest : Forest Entry) × IsTreeOf file text tokens forest) ⊎ ((stop : Stop) × IsSyntaxStop file text tokens stop)
+tree_or_stop file text tokens t =
+    let list = lexemes text tokens in
+    elim (file_or_stopped list (ends_once t.list)) [
+      | inl read ↦ inl (map_forest (entry_at file text tokens) (tree_of_file list read.0), record { building = read.0; reads = read.1; flat = read.2; is = refl })
+      | inr stopped ↦ elim stopped [
+        | inl deep ↦ inr (stop_of (Limit 3) file text tokens deep.0, nested deep.0 deep.1 refl)
+        | inr bad ↦ inr (stop_of (Error 6) file text tokens bad.0, wrong bad.0 (bad.1).wrong (bad.1).flat refl)
+      ]
+    ]
 
 pub stop_once : (file : ℕ) (text : List ℕ) (tokens : List Token) (a b : Stop) → IsSyntaxStop file text tokens a → IsSyntaxStop file text tokens b → a ≡ b
 stop_once file text tokens a b (wrong number w flat is) (wrong other v level also) =

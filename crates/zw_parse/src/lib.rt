@@ -8,6 +8,6 @@ mod spelling;
 mod syntax;
 mod tree;
 
-pub use laws::{one_stop_of_syntax, one_tree, tokens_of_trees, tree_or_stop};
+pub use laws::{one_stop_of_syntax, one_tree, tokens_of_trees, tree_or_stop, trees_are_small};
 pub use syntax::{NESTING, SYNTAX, parse};
 pub use tree::tree_of;

@@ -58,9 +58,6 @@ fn file_tree(
 {
     builder.enclose(NodeKind::Root, last)?;
     let nodes = builder.nodes();
-    if nodes.len() > u32::MAX as usize {
-        return Err(Oom);
-    }
     let ast = tree_of(alloc, file, text, tokens, nodes)?;
     Ok(ast)
 }
@@ -70,7 +67,7 @@ fn file_tree(
 /// A text that isn't grammatical stops at the first token after which no grammatical text goes on (error 6), and one in which
 /// more than 256 declarations, statements, expressions and types are nested at the token that begins the next one (limit 3),
 /// whichever stands first; at one token it is error 6 (Zig Language Reference 0.13.0, Grammar; the numbers are this project's
-/// own). 2^32 nodes and more end as want of memory.
+/// own).
 pub fn parse(alloc: Global, file: u32, text: &[u8], tokens: &[Token]) -> Result<Ast, Refused>
     requires tokens { Tokens text.now tokens.now }
     requires short { length text.now ≤ 4194304 }

@@ -1,5 +1,5 @@
 -- Files over their tokens: a list of tokens that ends once is a file, or has one first token after which no file goes on.
-use Rattle.std.proofs.Common.{◌≡◌, ℕ, zero, suc, ◌-◌, ◌<◌, ◌≤◌, Bool, true, false, ◌==◌, List, [], ◌∷◌, ◌++◌, length, take, drop, None, refl, sym, ap, ◌∙◌, subst, append_assoc, arith, ◌⊎◌, inl, inr}
+use Rattle.std.proofs.Common.{◌≡◌, ℕ, zero, suc, ◌-◌, ◌<◌, ◌≤◌, Bool, true, false, ◌==◌, List, [], ◌∷◌, ◌++◌, length, take, drop, Option, Some, None, refl, sym, ap, ◌∙◌, subst, append_assoc, arith, ◌⊎◌, inl, inr}
 use Rattle.std.proofs.lemmas.Bool.{eqb-true, eq-eqb, cases_lt}
 use Rattle.std.proofs.lemmas.List.{take-append-drop}
 use Rattle.zw_grammar.specs.declared.grammar.Symbol.{Symbol}
@@ -11,11 +11,11 @@ use Rattle.zw_grammar.specs.Ends.{IsRead, StopsAt}
 use Rattle.zw_grammar.specs.Grammars.{all_end}
 use Rattle.zw_grammar.specs.Reading.{Reading, Leads, after}
 use Rattle.zw_grammar.specs.Texts.{begins, Reads, IsWrong}
-use Rattle.zw_grammar.proofs.LawLemmas.{one_final, not_nested, nested_once}
+use Rattle.zw_grammar.proofs.LawLemmas.{one_final, not_nested, nested_once, nested_or_flat}
 use Rattle.zw_grammar.proofs.LeadLemmas.{one_way, no_way}
 use Rattle.zw_grammar.proofs.StepLemmas.{truth}
 use Rattle.zw_grammar.proofs.TakeLemmas.{stuck_somewhere}
-use Rattle.zw_parse_expr.specs.Files.{file_start, IsFile, IsWrongFile, IsNestedFile, FileEnds}
+use Rattle.zw_parse_expr.specs.Files.{file_start, IsFile, IsWrongFile, IsNestedFile, StopsFile, FileEnds}
 use Rattle.zw_parse_expr.specs.Lexemes.{Lexeme, terminals_of, EndsOnce}
 use Rattle.zw_parse_expr.specs.Rules.{rules}
 use Rattle.zw_parse_expr.proofs.Checks.{all_rules_end}
@@ -170,3 +170,25 @@ read_before_end list builder to ends read unread = record {
 
 pub stops_file : (list : List Lexeme) (builder : Builder) (place : ℕ) → EndsOnce list → StopsAt rules file_start (terminals_of list) 0 place → FileEnds list builder (ends.Wrong place)
 stops_file list builder place ends stops = record { wrong = wrong_file list place ends stops.wrong; flat = stops.flat }
+
+-- what is told of a list of tokens: a file with no rule nested too deep, or one is, or a token is wrong before any is
+abbrev IsTold : List Lexeme → Type 0
+IsTold list = ((b : Building) × IsFile list b × (b.passed ≡ None)) ⊎ (((place : ℕ) × IsNestedFile list place) ⊎ ((place : ℕ) × StopsFile list place))
+
+file_told : (list : List Lexeme) (b : Building) → IsFile list b → (o : Option ℕ) → b.passed ≡ o → IsTold list
+file_told list b file None e = inl (b, file, e)
+file_told list b file (Some place) e =
+    inr (inl (place, record { reading = record { stack = []; next = length list - 1; building = b }; leads = file.reads.leads; passed = e; taken = inr refl }))
+
+-- a list that ends once is told of
+pub file_or_stopped : (list : List Lexeme) → EndsOnce list → IsTold list
+file_or_stopped list ends =
+    let T = terminals_of list in
+    let n = stuck_somewhere (length T) rules T (begins file_start 0) (truth (all_end rules rules) all_rules_end) (omega arith) in
+    elim (file_or_wrong list ends) [
+      | inl file ↦ file_told list file.0 file.1 (file.0).passed refl
+      | inr wrong ↦ elim (nested_or_flat rules file_start T 0 n.at n.leads n.stuck) [
+        | inl nested ↦ inr (inl nested)
+        | inr flat ↦ inr (inr (wrong.0, record { wrong = wrong.1; flat = flat }))
+      ]
+    ]

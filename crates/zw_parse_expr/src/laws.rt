@@ -1,9 +1,10 @@
 // Laws of files.
-ghost use Rattle.std.specs.Prelude.{◌≡◌, ℕ, ◌⊎◌, List, None};
+ghost use Rattle.std.specs.Prelude.{◌≡◌, ℕ, ◌-◌, ◌*◌, ◌≤◌, ◌⊎◌, List, length, None};
 ghost use Rattle.zw_grammar.specs.declared.builder.Builder.{Builder};
 ghost use Rattle.zw_grammar.specs.declared.machine.End.{End};
 ghost use Rattle.zw_grammar.specs.Building.{Building};
-ghost use Rattle.zw_parse_expr.specs.Files.{IsFile, IsWrongFile, IsNestedFile, FileEnds};
+ghost use Rattle.zw_grammar.specs.Nodes.{all_nodes};
+ghost use Rattle.zw_parse_expr.specs.Files.{IsFile, IsWrongFile, IsNestedFile, StopsFile, FileEnds};
 ghost use Rattle.zw_parse_expr.specs.Lexemes.{Lexeme, EndsOnce};
 
 /// A list of tokens is a file in one way at most: one tree is built of it.
@@ -16,6 +17,18 @@ pub fn file_or_wrong()
     ensures either { (list : List Lexeme) → EndsOnce list → ((b : Building) × IsFile list b) ⊎ ((place : ℕ) × IsWrongFile list place) }
     ensures never_both { (list : List Lexeme) (b : Building) (place : ℕ) → IsFile list b → IsWrongFile list place → ⊥ }
     ensures nested { (list : List Lexeme) (b : Building) (place : ℕ) → IsFile list b → b.passed ≡ None → IsNestedFile list place → ⊥ }
+{}
+
+/// A list of tokens that ends once is a file with no rule nested too deep, or one of its tokens begins the first rule nested too deep,
+/// or a token is the first after which no file goes on and no rule before it is nested too deep.
+pub fn file_or_stopped()
+    ensures { (list : List Lexeme) → EndsOnce list →
+        ((b : Building) × IsFile list b × (b.passed ≡ None)) ⊎ (((place : ℕ) × IsNestedFile list place) ⊎ ((place : ℕ) × StopsFile list place)) }
+{}
+
+/// A file has at most two nodes for each token before its end.
+pub fn files_are_small()
+    ensures { (list : List Lexeme) (b : Building) → IsFile list b → length (all_nodes b.begun b.ended) ≤ 2 * (length list - 1) }
 {}
 
 /// At most one token is the first after which no file goes on.

@@ -8,9 +8,9 @@ mod table;
 mod terminal;
 mod terminals;
 
-pub use laws::{file_or_wrong, one_end, one_file, one_nested_file, one_wrong_file};
+pub use laws::{
+    file_or_stopped, file_or_wrong, files_are_small, one_end, one_file, one_nested_file,
+    one_wrong_file,
+};
 pub use reading::{body, expr, root};
 pub use zw_grammar::{Builder, Built, End};
-
-#[cfg(test)]
-mod tests;
