@@ -1,10 +1,11 @@
 -- Ranges of integer types, and what the rows say of them.
-use Rattle.std.specs.Prelude.{◌≡◌, ℕ, ◌+◌, ℤ, pos, negsuc, Bool, true, false, ◌&&◌, ◌||◌, int_le, if◌then◌else◌, [], ◌∷◌, Option, Some, None, Result, Ok, Err, refl}
+use Rattle.std.specs.Prelude.{◌≡◌, ℕ, ◌+◌, ℤ, pos, negsuc, Bool, true, false, ◌&&◌, ◌||◌, int_le, if◌then◌else◌, [], ◌∷◌, Option, Some, Result, Ok, Err, refl}
 use Rattle.std.proofs.Common.{rules, ◌∙◌, ap}
 use Rattle.zw_num.specs.declared.int_ty.IntTy.{IntTy}
 use Rattle.zw_num.specs.Arithmetic.{least, greatest}
 use Rattle.zw_types.specs.TypeTrees.{TypeTree, ValueTree}
-use Rattle.zw_values.specs.Coercions.{Row, Applies, Refuses, IsForOthers, is_same, has_no_value, has_all, integer_of, known_row, integers_row, integer_row, by_rows, coercion}
+use Rattle.zw_values.specs.Coercions.{Row, Applies, Refuses, IsForOthers, has_no_value, has_all, integer_of, known_row, integers_row, integer_row, by_rows, coercion}
+use Rattle.zw_values.specs.Sameness.{is_same}
 use Rattle.zw_coerce.specs.Answers.{row_answer}
 
 nat_le-refl : (n : ℕ) → int_le (pos n) (pos n) ≡ true

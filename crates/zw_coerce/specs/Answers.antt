@@ -1,5 +1,5 @@
 -- What the calls answer, in the terms of the definitions.
-use Rattle.std.specs.Prelude.{◌≡◌, ℕ, List, [], ◌∷◌, map, Option, Some, None, Result, Ok, Err}
+use Rattle.std.specs.Prelude.{◌≡◌, ℕ, List, [], ◌∷◌, map, Option, None, Result, Ok, Err}
 use Rattle.zw_types.specs.declared.value.TypeId.{TypeId}
 use Rattle.zw_types.specs.TypeTrees.{TypeTree}
 use Rattle.zw_types.specs.Readings.{type_at}

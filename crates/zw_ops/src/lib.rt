@@ -10,6 +10,7 @@ mod measures;
 mod operands;
 mod operators;
 mod plain;
+mod ready;
 mod single;
 mod truths;
 mod typed;
@@ -17,3 +18,4 @@ mod values;
 
 pub use application::apply;
 pub use cause::Cause;
+pub use ready::is_applicable;

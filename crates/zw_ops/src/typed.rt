@@ -101,7 +101,7 @@ pub(crate) fn counted(
 }
 
 /// The integers of the first of these types.
-fn first_integers(types: &Types, from: &[TypeId]) -> Option<IntTy>
+pub(crate) fn first_integers(types: &Types, from: &[TypeId]) -> Option<IntTy>
     requires { All (λ id. id.0 < length types.now.trees) from.now }
     ensures integers { result ≡ operation.first_integers (map (type_at types.now.trees) from.now) }
     ensures is_type { MatchOption result (Unit {0}) IsType }

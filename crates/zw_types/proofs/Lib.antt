@@ -5,3 +5,4 @@ pub mod Forms
 pub mod ListLemmas
 pub mod EntryLemmas
 pub mod TableLemmas
+pub mod TextLemmas

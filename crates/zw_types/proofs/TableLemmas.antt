@@ -13,13 +13,50 @@ use Rattle.zw_types.specs.declared.types.Entry.{Entry}
 use Rattle.zw_types.specs.TypeTrees as tree
 use Rattle.zw_types.specs.TypeTrees.{TypeTree, ShapeTree, is_container}
 use Rattle.zw_types.specs.Readings.{form_tree, shape_tree, trees_from, types_in_form, types_in_shape}
-use Rattle.zw_types.specs.Tables.{TypeTable, IsTable, IsFormed, IsInterned, IsOpen, Keeps, resolved}
+use Rattle.zw_types.specs.Tables.{TypeTable, IsTable, IsFormed, IsInterned, IsOpen, IsShapeOf, IsTagOf, Keeps, names_of, resolved}
 use Rattle.zw_types.specs.Entries.{MentionEarlier, forms_of, trees_of, shape_in, table_of, HasKnownShape, AreEntries}
 use Rattle.zw_types.proofs.Each.{Each, Each-weaker, Each-from_All}
 use Rattle.zw_types.proofs.Agreement.{Same, shape_agrees}
-use Rattle.zw_types.proofs.ListLemmas.{one_place, slice_get_append_left, slice_get_push, slice_get_push_cases, slice_get_set_other}
+use Rattle.zw_types.proofs.ListLemmas.{one_place, slice_get_append_left, slice_get_push, slice_get_push_cases, slice_get_set, slice_get_set_other}
 use Rattle.zw_types.proofs.EntryLemmas.{trees_from-append, length-trees_of, length-forms, trees_of-at, form_in_entry, MentionEarlier-at, MentionEarlier-push}
 use Rattle.zw_types.proofs.Forms.{one_form}
+
+-- ---- a table that keeps the types and the fields of another one
+
+module _ (old new : TypeTable) (trees : (k : ℕ) (ty : TypeTree) → slice_get old.trees k ≡ Some ty → slice_get new.trees k ≡ Some ty) (shapes : (k : ℕ) (s : ShapeTree) → slice_get old.shapes k ≡ Some (Some s) → slice_get new.shapes k ≡ Some (Some s)) where
+  tag_kept : (names : List (List ℕ)) (ty : TypeTree) → IsTagOf old names ty → IsTagOf new names ty
+  tag_kept names (tree.EnumType file node captures) h = (h.0, (h.1.0, trees h.1.0 (tree.EnumType file node captures) h.1.1, shapes h.1.0 h.0 h.1.2), h.2)
+  tag_kept names _ h = absurd h
+
+  choice_kept : (names : List (List ℕ)) (tag : Option TypeTree) → MatchOption tag (Unit {0}) (IsTagOf old names) → MatchOption tag (Unit {0}) (IsTagOf new names)
+  choice_kept names None h = tt
+  choice_kept names (Some ty) h = tag_kept names ty h
+
+  -- what fits a container fits it still
+  pub fits_still : (ty : TypeTree) (s : ShapeTree) → IsShapeOf old ty s → IsShapeOf new ty s
+  fits_still (tree.StructType file node captures) s h = h
+  fits_still (tree.EnumType file node captures) s h = h
+  fits_still (tree.UnionType file node captures) s h = (h.0, h.1, choice_kept (names_of s) s.tag h.2)
+  fits_still _ s h = absurd h
+
+-- fields fit containers alone
+pub fits_container : (t : TypeTable) (ty : TypeTree) (s : ShapeTree) → IsShapeOf t ty s → IsTrue (is_container ty)
+fits_container t (tree.StructType file node captures) s h = refl
+fits_container t (tree.EnumType file node captures) s h = refl
+fits_container t (tree.UnionType file node captures) s h = refl
+fits_container t _ s h = absurd h
+
+-- whether fields fit has nothing to do with errors
+pub with_errors : (es : List Entry) (some others : List (List ℕ)) (ty : TypeTree) (s : ShapeTree) → IsShapeOf (table_of es some) ty s → IsShapeOf (table_of es others) ty s
+with_errors es some others = fits_still (table_of es some) (table_of es others) (λ k ty h. h) (λ k s h. h)
+
+pub IsTable-with_errors : (es : List Entry) (some others : List (List ℕ)) → IsTable (table_of es some) → IsTable (table_of es others)
+IsTable-with_errors es some others is = record {
+  once = is.once;
+  formed = is.formed;
+  as_many = is.as_many;
+  fitting = λ k s h. with_errors es some others (slice_index_or (trees_of es) k tree.VoidType) s (is.fitting k s h);
+}
 
 -- the table with one more type
 abbrev pub pushed : TypeTable → TypeTree → TypeTable
@@ -43,8 +80,11 @@ IsTable-pushed t ty is formed fresh = record {
   once = all_pairs_push (λ a b. a ≢ b) t.trees ty is.once (λ k d l e. fresh (k, l, get_or_default t.trees k ty d l ∙ e));
   formed = All-push IsFormed t.trees ty is.formed formed;
   as_many = omega (arith, is.as_many, length_push t.shapes None, length_push t.trees ty);
-  containers = λ k s h. elim (slice_get_push_cases t.shapes None (Some s) k h) [
-    | inl e ↦ subst (λ x. IsTrue (is_container x)) (sym (get_or_append_left t.trees (ty ∷ []) tree.VoidType k (omega (arith, is.as_many, slice_get_within t.shapes k (Some s) e)))) (is.containers k s e)
+  fitting = λ k s h. elim (slice_get_push_cases t.shapes None (Some s) k h) [
+    | inl e ↦
+        let keeps = Keeps-pushed t ty in
+        subst (λ x. IsShapeOf (pushed t ty) x s) (sym (get_or_append_left t.trees (ty ∷ []) tree.VoidType k (omega (arith, is.as_many, slice_get_within t.shapes k (Some s) e))))
+        (fits_still t (pushed t ty) keeps.trees keeps.shapes (slice_index_or t.trees k tree.VoidType) s (is.fitting k s e))
     | inr e ↦ absurd (none_is_not_some s e.1)
   ];
 }
@@ -129,16 +169,26 @@ Keeps-resolved t k s is_open = record {
   errors = λ j n h. h;
 }
 
-pub IsTable-resolved : (t : TypeTable) (k : ℕ) (s : ShapeTree) → IsTable t → IsOpen t k → IsTable (resolved t k s)
-IsTable-resolved t k s is is_open = record {
+pub IsTable-resolved : (t : TypeTable) (k : ℕ) (s : ShapeTree) → IsTable t → IsOpen t k → IsShapeOf t (slice_index_or t.trees k tree.VoidType) s → IsTable (resolved t k s)
+IsTable-resolved t k s is is_open fits = record {
   once = is.once;
   formed = is.formed;
   as_many = length-set t.shapes k (Some s) ∙ is.as_many;
-  containers = λ j x h. elim (ℕ_discrete k j) [
-    | yes e ↦ subst (λ n. IsTrue (is_container (slice_index_or t.trees n tree.VoidType))) e is_open.0
-    | no n ↦ is.containers j x (sym (slice_get_set_other t.shapes k j (Some s) n) ∙ h)
+  fitting = λ j x h. elim (ℕ_discrete k j) [
+    | yes e ↦
+        let here : slice_get (slice_set t.shapes k (Some s)) k ≡ Some (Some x) = subst (λ n. slice_get (slice_set t.shapes k (Some s)) n ≡ Some (Some x)) (sym e) h in
+        let same : s ≡ x = one_shape s x (sym (slice_get_set t.shapes k (Some s) (slice_get_within t.shapes k None is_open.1)) ∙ here) in
+        subst (λ n. IsShapeOf (resolved t k s) (slice_index_or t.trees n tree.VoidType) x) e
+        (subst (λ y. IsShapeOf (resolved t k s) (slice_index_or t.trees k tree.VoidType) y) same (still (slice_index_or t.trees k tree.VoidType) s fits))
+    | no n ↦ still (slice_index_or t.trees j tree.VoidType) x (is.fitting j x (sym (slice_get_set_other t.shapes k j (Some s) n) ∙ h))
   ];
 }
+  where
+    still : (ty : TypeTree) (x : ShapeTree) → IsShapeOf t ty x → IsShapeOf (resolved t k s) ty x
+    still = let keeps = Keeps-resolved t k s is_open in fits_still t (resolved t k s) keeps.trees keeps.shapes
+
+    one_shape : (x y : ShapeTree) → Some (Some x) ≡ Some (Some y) → x ≡ y
+    one_shape x y e = cc
 
 -- an entry that gets its fields
 abbrev pub with_shape : Entry → Shape → Entry
@@ -161,13 +211,13 @@ module _ (es : List Entry) (k : ℕ) (e : Entry) (within : k < length es) (is : 
       ap (λ ts. map (shape_in ts) (slice_set es k (with_shape e s))) trees ∙ map-set (shape_in (trees_of es)) es k (with_shape e s) in
       λ i. record { trees = trees i; shapes = shapes i; errors = errors }
 
-  pub AreEntries-set : (s : Shape) → AreEntries es → IsOpen (table_of es []) k → All (λ j. j < length es) (types_in_shape s) → AreEntries (slice_set es k (with_shape e s))
-  AreEntries-set s are is_open known =
+  pub AreEntries-set : (s : Shape) → AreEntries es → IsOpen (table_of es []) k → All (λ j. j < length es) (types_in_shape s) → IsShapeOf (table_of es []) (slice_index_or (trees_of es) k tree.VoidType) (shape_tree (trees_of es) s) → AreEntries (slice_set es k (with_shape e s))
+  AreEntries-set s are is_open known fits =
       let as_many : length (slice_set es k (with_shape e s)) ≡ length es = length-set es k (with_shape e s) in
       record {
         earlier = subst (MentionEarlier 0) (sym (forms_of-set s)) are.earlier;
         known = subst (λ n. All (HasKnownShape n) (slice_set es k (with_shape e s))) (sym as_many) (All-set (HasKnownShape (length es)) es k (with_shape e s) known are.known);
-        table = subst IsTable (sym (table_of-set [] s)) (IsTable-resolved (table_of es []) k (shape_tree (trees_of es) s) are.table is_open);
+        table = subst IsTable (sym (table_of-set [] s)) (IsTable-resolved (table_of es []) k (shape_tree (trees_of es) s) are.table is_open fits);
         few = omega (arith, are.few);
       }
 
@@ -175,6 +225,12 @@ module _ (es : List Entry) (k : ℕ) (e : Entry) (within : k < length es) (is : 
   shape_at errors =
       slice_get-map (shape_in (trees_of es)) es k
       ∙ ap (option_map (shape_in (trees_of es))) (slice_get-get_or es k e within ∙ ap Some (sym is))
+
+  -- the fields of the entry fit it
+  pub entry_fits : (errors : List (List ℕ)) → AreEntries es → (s : Shape) → e.shape ≡ Some s → IsShapeOf (table_of es errors) (slice_index_or (trees_of es) k tree.VoidType) (shape_tree (trees_of es) s)
+  entry_fits errors are s h =
+      with_errors es [] errors (slice_index_or (trees_of es) k tree.VoidType) (shape_tree (trees_of es) s)
+      (are.table.fitting k (shape_tree (trees_of es) s) (shape_at [] ∙ ap (λ (o : Option Shape). Some (option_map (shape_tree (trees_of es)) o)) h))
 
   -- the entry is a container without fields
   pub open_from_entry : (errors : List (List ℕ)) → AreEntries es → IsTrue (is_container (form_tree (trees_of es) e.form)) → e.shape ≡ None → IsOpen (table_of es errors) k

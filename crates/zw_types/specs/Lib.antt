@@ -4,3 +4,5 @@ pub mod SameTypes
 pub mod Tables
 pub mod Entries
 pub mod TreeCodes
+pub mod WorkedTypes
+pub mod TypeTexts

@@ -32,13 +32,6 @@ IsFormed (tree.ErrorUnionType set payload) = IsTrue (is_error_set set)
 IsFormed (tree.FuncType params result comptime outside) = length (tree.types_in params) ≡ length comptime
 IsFormed _ = Unit {0}
 
--- What holds of each table: no type has two numbers, each type is formed, and containers alone have fields.
-pub record IsTable (table : TypeTable) : Type 0 where
-  pub once : AllPairs (λ a b. a ≢ b) table.trees
-  pub formed : All IsFormed table.trees
-  pub as_many : length table.shapes ≡ length table.trees
-  pub containers : (k : ℕ) (shape : ShapeTree) → slice_get table.shapes k ≡ Some (Some shape) → IsTrue (is_container (slice_index_or table.trees k tree.VoidType))
-
 -- ---- what a table is after a call
 
 -- The number of a type, and the table after: the type has a number already and the table stays, or it gets the next one.
@@ -100,3 +93,13 @@ IsShapeOf table (tree.EnumType file node captures) shape =
 IsShapeOf table (tree.UnionType file node captures) shape =
     AllPairs (λ a b. a ≢ b) (names_of shape) × HasNoNumbers shape × MatchOption shape.tag (Unit {0}) (IsTagOf table (names_of shape))
 IsShapeOf table _ shape = ⊥
+
+-- ---- tables
+
+-- What holds of each table: no type has two numbers, each type is formed, and what has fields is a container that they fit. So what has
+-- fields is a struct, an enum or a union; the names of its fields differ, and its tag is as `IsShapeOf` says.
+pub record IsTable (table : TypeTable) : Type 0 where
+  pub once : AllPairs (λ a b. a ≢ b) table.trees
+  pub formed : All IsFormed table.trees
+  pub as_many : length table.shapes ≡ length table.trees
+  pub fitting : (k : ℕ) (shape : ShapeTree) → slice_get table.shapes k ≡ Some (Some shape) → IsShapeOf table (slice_index_or table.trees k tree.VoidType) shape

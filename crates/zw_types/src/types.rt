@@ -145,12 +145,13 @@ impl Types {
         is_container(&entry.form) && entry.shape.is_none()
     }
 
-    /// The fields of a container; None exactly where the type isn't a resolved container.
+    /// The fields of a container, which fit it; None exactly where the type isn't a resolved container.
     pub fn shape(&self, id: TypeId) -> Option<&Shape>
         requires { id.0 < length self.now.trees }
         ensures none { MatchOption result (slice_get self.now.shapes id.0 ≡ Some None)
             (λ shape. slice_get self.now.shapes id.0 ≡ Some (Some (shape_tree self.now.trees shape.now))) }
         ensures known { MatchOption result (Unit {0}) (λ shape. All (λ k. k < length self.now.trees) (types_in_shape shape.now)) }
+        ensures fits { MatchOption result (Unit {0}) (λ shape. IsShapeOf self.now (type_at self.now.trees id) (shape_tree self.now.trees shape.now)) }
     {
         self.entries[id.0 as usize].shape.as_ref()
     }

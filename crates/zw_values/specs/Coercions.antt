@@ -1,16 +1,12 @@
 -- Coercions and peer types (Zig Language Reference 0.13.0, Type Coercion and Peer Type Resolution), with the numbers of the errors that
 -- refuse them (this project's own). docs/LANGUAGE.md has the rows.
-use Rattle.std.specs.Prelude.{◌≡◌, ℕ, ◌+◌, ℤ, Bool, true, false, ◌&&◌, ◌||◌, int_le, if◌then◌else◌, List, [], ◌∷◌, Option, Some, None, option_and_then, Result, Ok, Err}
+use Rattle.std.specs.Prelude.{ℕ, ◌+◌, Bool, true, false, ◌&&◌, ◌||◌, int_le, if◌then◌else◌, List, [], ◌∷◌, Option, Some, None, option_and_then, Result, Ok, Err}
 use Rattle.zw_num.specs.declared.int_ty.IntTy.{IntTy}
 use Rattle.zw_num.specs.declared.int_ty.IntTy.TheVariants.{Sized, Comptime}
 use Rattle.zw_num.specs.Arithmetic.{least, greatest, is_in}
 use Rattle.zw_types.specs.TypeTrees as tree
 use Rattle.zw_types.specs.TypeTrees.{TypeTree, ValueTree}
-use Rattle.zw_types.specs.SameTypes.{same_type}
-
--- whether two types are the same
-unfoldable pub is_same : TypeTree → TypeTree → Bool
-is_same a b = elim (same_type a b) [ yes _ ↦ true | no _ ↦ false ]
+use Rattle.zw_values.specs.Sameness.{is_same}
 
 -- the integers of a type, where it is an integer type
 abbrev pub integer_of : TypeTree → Option IntTy

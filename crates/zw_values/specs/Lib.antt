@@ -1,6 +1,8 @@
 pub mod Paths
 pub mod ObjectStore
 pub mod Wild
+pub mod Sameness
 pub mod Coercions
 pub mod Operations
 pub mod WorkedOperations
+pub mod WorkedStores

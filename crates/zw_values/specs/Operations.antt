@@ -4,7 +4,7 @@
 -- `given` is the whole of it: an operation, the types of its operands, the type of its result, and the values of the operands. Operands
 -- were checked before: on others it says `IsWild`, which means nothing there. `operation_of` says which operation a number names.
 -- `@sizeOf` and `@alignOf` aren't here, since they ask a table of types.
-use Rattle.std.specs.Prelude.{◌≡◌, ℕ, ◌+◌, ◌-◌, ◌/◌, ℤ, pos, negsuc, neg_ℤ, ◌+ℤ◌, ◌-ℤ◌, ◌*ℤ◌, Bool, true, false, not, nat_eq, int_le, int_lt, unsigned_abs, count_ones, if◌then◌else◌, List, [], ◌∷◌, Option, Some, None, Result, Ok, Err}
+use Rattle.std.specs.Prelude.{ℕ, ◌/◌, ℤ, pos, neg_ℤ, ◌+ℤ◌, ◌-ℤ◌, ◌*ℤ◌, Bool, true, false, not, nat_eq, int_le, int_lt, unsigned_abs, count_ones, if◌then◌else◌, List, [], ◌∷◌, Option, Some, None, Result, Ok, Err}
 use Rattle.std.specs.Ordering.{int_eq}
 use Rattle.std.specs.Int.{int_min, int_max}
 use Rattle.std.specs.Int.Count.{count_leading_zeros, count_trailing_zeros}
@@ -16,7 +16,8 @@ use Rattle.zw_num.specs.Arithmetic.{exact, wrapped, saturated, cast_to, truncate
 use Rattle.zw_num.specs.declared.op.TheConstants as number
 use Rattle.zw_types.specs.TypeTrees as tree
 use Rattle.zw_types.specs.TypeTrees.{TypeTree, ValueTree}
-use Rattle.zw_values.specs.Coercions.{is_same, integer_of}
+use Rattle.zw_values.specs.Sameness.{is_same}
+use Rattle.zw_values.specs.Coercions.{integer_of}
 
 -- what an operation comes to: a value, a panic with its cause, unchecked illegal behaviour, or a limit that is passed
 pub data Outcome : Type 0 where

@@ -1,7 +1,7 @@
 -- What operations come to, worked out by hand (Zig Language Reference 0.13.0, Operators and Builtin Functions).
-use Rattle.std.specs.Prelude.{◌≡◌, ◌-◌, ◌*◌, ◌^◌, ℕ, ℤ, pos, neg_ℤ, Bool, true, false, List, [], ◌∷◌}
+use Rattle.std.specs.Prelude.{◌≡◌, ◌-◌, ◌^◌, ℕ, pos, neg_ℤ, Bool, true, false, [], ◌∷◌}
 use Rattle.zw_num.specs.declared.op.TheConstants as number
-use Rattle.zw_types.specs.TypeTrees.{TypeTree, ValueTree, IntType, ComptimeIntType, BoolType, TypeType, VoidType, NumberValue, TruthValue, UndefinedValue, TypeValue}
+use Rattle.zw_types.specs.TypeTrees.{TypeTree, ValueTree, IntType, ComptimeIntType, BoolType, TypeType, NumberValue, TruthValue, UndefinedValue, TypeValue}
 use Rattle.zw_values.specs.Operations.{Outcome, Gives, Panics, IsWild, Passes, applied}
 
 abbrev pub u : ℕ → TypeTree

@@ -1,7 +1,10 @@
-// What holds of paths, and of operators on values: each law is the contract of a function that does nothing.
-ghost use Rattle.std.specs.Prelude.{◌≡◌, ◌↔◌, ℕ, List, Some, IsSome};
-ghost use Rattle.zw_types.specs.TypeTrees.{ValueTree};
+// What holds of paths, stores, and operators on values: each law is the contract of a function that does nothing.
+ghost use Rattle.std.specs.Prelude.{◌≡◌, ◌≢◌, ◌↔◌, ℕ, true, List, [], slice_get, Some, IsSome};
+ghost use Rattle.zw_types.specs.TypeTrees.{TypeTree, ValueTree};
+ghost use Rattle.zw_values.specs.Sameness.{is_same};
 ghost use Rattle.zw_values.specs.Paths.{value_at, written_at, AreApart};
+ghost use Rattle.zw_values.specs.ObjectStore.{Object, Store, place_in, place_of, saved};
+ghost use Rattle.zw_values.specs.WorkedStores.{WorkedStores, WorkedWild};
 ghost use Rattle.zw_values.specs.WorkedOperations.{WorkedIntegers, WorkedComptime, WorkedValues};
 
 /// A value that was written at a path is read there, and it can be written exactly where something can be read.
@@ -22,4 +25,24 @@ pub fn worked_operations()
     ensures integers { WorkedIntegers }
     ensures comptime_numbers { WorkedComptime }
     ensures values { WorkedValues }
+{}
+
+/// A value that was saved in a live object is what its place holds, and other objects stay as they are.
+pub fn saved_values()
+    ensures in_place { (store after : Store) (obj : ℕ) (path : List ℕ) (new : ValueTree) (object : Object) → slice_get store obj ≡ Some object → object.live ≡ true →
+        saved store obj path new ≡ Some after → place_of after obj path ≡ place_in new [] }
+    ensures others { (store after : Store) (obj other : ℕ) (path : List ℕ) (new : ValueTree) → obj ≢ other →
+        saved store obj path new ≡ Some after → slice_get after other ≡ slice_get store other }
+{}
+
+/// Places in a store, worked out by hand: elements, payloads that are no longer there, what is undefined, and objects that ended; and
+/// what is unchecked illegal behaviour with them, and what isn't.
+pub fn stores_are_worked()
+    ensures places { WorkedStores }
+    ensures wild { WorkedWild }
+{}
+
+/// The test of two types holds exactly where they are equal.
+pub fn same_types_are_equal()
+    ensures { (a b : TypeTree) → is_same a b ≡ true ↔ (a ≡ b) }
 {}

@@ -3,7 +3,8 @@ ghost use Rattle.std.specs.Prelude.{◌≡◌, ◌<◌, length, List, MatchOptio
 ghost use Rattle.zw_num.specs.Arithmetic.{IsType};
 ghost use Rattle.zw_types.specs.TypeTrees.{TypeTree};
 ghost use Rattle.zw_types.specs.Readings.{type_at, form_tree};
-ghost use Rattle.zw_values.specs.Coercions.{integer_of, is_same};
+ghost use Rattle.zw_values.specs.Coercions.{integer_of};
+ghost use Rattle.zw_values.specs.Sameness.{is_same};
 
 use zw_num::IntTy;
 use zw_types::{TypeForm, TypeId, Types};

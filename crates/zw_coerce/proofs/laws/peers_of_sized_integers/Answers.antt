@@ -1,9 +1,10 @@
 -- The peer of two sized integer types is one of them that has all values of the other.
-use Rattle.std.proofs.Common.{◌≡◌, ℕ, Bool, true, false, Option, Some, None, refl, sym, ◌∙◌, ap, subst, if◌then◌else◌}
+use Rattle.std.proofs.Common.{◌≡◌, ℕ, Bool, true, false, Option, Some, None, refl, ap, subst, if◌then◌else◌}
 use Rattle.zw_num.specs.declared.int_ty.IntTy.{IntTy}
 use Rattle.zw_num.specs.declared.int_ty.IntTy.TheVariants.{Sized}
 use Rattle.zw_types.specs.TypeTrees.{TypeTree, IntType}
-use Rattle.zw_values.specs.Coercions.{is_same, integer_of, has_all}
+use Rattle.zw_values.specs.Sameness.{is_same}
+use Rattle.zw_values.specs.Coercions.{integer_of, has_all}
 use Rattle.zw_values.proofs.SameLemmas.{is_same-true}
 use Rattle.zw_coerce.proofs.IntegerLemmas.{has_all-refl}
 use Rattle.zw_coerce.proofs.laws.peers_of_sized_integers.Goals as goal

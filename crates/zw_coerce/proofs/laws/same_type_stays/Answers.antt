@@ -1,7 +1,7 @@
 -- The first row applies to a type and itself.
 use Rattle.std.proofs.Common.{ℕ, Bool, Result, Ok, Err, [], ◌∷◌, ap, if◌then◌else◌, ◌+◌}
 use Rattle.std.specs.Prelude.{◌||◌}
-use Rattle.zw_values.specs.Coercions.{Row, Applies, Refuses, IsForOthers, has_no_value, integer_row, by_rows}
+use Rattle.zw_values.specs.Coercions.{Applies, Refuses, IsForOthers, has_no_value, integer_row, by_rows}
 use Rattle.zw_values.proofs.SameLemmas.{is_same-refl}
 use Rattle.zw_coerce.proofs.laws.same_type_stays.Goals as goal
 

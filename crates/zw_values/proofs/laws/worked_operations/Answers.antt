@@ -1,10 +1,7 @@
 -- Each example computes.
-use Rattle.std.proofs.Common.{refl, ap}
+use Rattle.std.proofs.Common.{refl}
 use Rattle.zw_num.specs.Arithmetic.{power, reversed}
-use Rattle.zw_types.specs.TypeTrees.{IntType, TruthValue}
-use Rattle.std.specs.Prelude.{not, true, false}
-use Rattle.zw_values.specs.Operations.{Gives}
-use Rattle.zw_values.proofs.SameLemmas.{is_same-refl, is_same-apart}
+use Rattle.zw_values.specs.Sameness.{is_same}
 use Rattle.zw_values.proofs.laws.worked_operations.Goals as goal
 
 pub returns-clause-integers : goal.returns-clause-integers
@@ -16,5 +13,5 @@ unfolding power
 returns-clause-comptime_numbers c = record { last_power = refl; past_power = refl; sum_past = refl; product_past = refl; negated_past = refl; absolute_past = refl; by_zero = refl; negative_amount = refl }
 
 pub returns-clause-values : goal.returns-clause-values
-unfolding power
-returns-clause-values c = record { less = refl; not_less = refl; at_most = refl; greater = refl; at_least = refl; same = refl; differ = refl; same_truths = refl; truths_differ = refl; same_types = ap (λ b. Gives (TruthValue b)) (is_same-refl (IntType false 8 false)); types_differ = ap (λ b. Gives (TruthValue b)) (is_same-apart (IntType false 32 false) (IntType false 32 true) (λ e. cc)); negation = refl; both = refl; first_decides = refl; second_is_it = refl; either = refl; integer_bits = refl; truth_bits = refl; as_type = refl; copied = refl; computed = refl; times_nothing = refl; shifted = refl; negated = refl; counted = refl; compared = refl; decided = refl; denied = refl; least = refl }
+unfolding is_same power
+returns-clause-values c = record { less = refl; not_less = refl; at_most = refl; greater = refl; at_least = refl; same = refl; differ = refl; same_truths = refl; truths_differ = refl; same_types = refl; types_differ = refl; negation = refl; both = refl; first_decides = refl; second_is_it = refl; either = refl; integer_bits = refl; truth_bits = refl; as_type = refl; copied = refl; computed = refl; times_nothing = refl; shifted = refl; negated = refl; counted = refl; compared = refl; decided = refl; denied = refl; least = refl }

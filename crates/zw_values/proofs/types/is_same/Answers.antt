@@ -1,12 +1,11 @@
 -- In a table equal types have one number.
 use Rattle.std.proofs.Common.{◌≡◌, ℕ, true, slice_index_or, sym, ◌∙◌, subst}
 use Rattle.std.proofs.lemmas.Bool.Decides.{eqb_tells}
-use Rattle.std.specs.Prelude.{◌⊎◌}
 use Rattle.std.proofs.Common.{inl, inr}
 use Rattle.zw_types.specs.TypeTrees as tree
 use Rattle.zw_types.specs.Readings.{type_at}
 use Rattle.zw_types.proofs.ListLemmas.{one_place}
-use Rattle.zw_values.specs.Coercions.{is_same}
+use Rattle.zw_values.specs.Sameness.{is_same}
 use Rattle.zw_values.proofs.SameLemmas.{is_same-refl, is_same-apart}
 use Rattle.zw_values.proofs.types.is_same.Goals as goal
 

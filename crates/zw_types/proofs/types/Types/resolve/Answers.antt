@@ -1,12 +1,12 @@
 -- The table with the fields in one entry is the table before, resolved.
-use Rattle.std.proofs.Common.{◌≡◌, ◌<◌, length, All, sym, ap, subst, arith, slice_set, refl}
+use Rattle.std.proofs.Common.{◌≡◌, ◌<◌, length, All, sym, ap, subst, arith, slice_set, refl, IsTrue, []}
 use Rattle.std.proofs.lemmas.List.Elements.{All-weaker}
-use Rattle.zw_types.specs.TypeTrees.{TypeTree}
-use Rattle.zw_types.specs.Readings.{shape_tree, types_in_shape}
-use Rattle.zw_types.specs.Tables.{TypeTable, IsOpen, Keeps, resolved}
+use Rattle.zw_types.specs.TypeTrees.{TypeTree, is_container}
+use Rattle.zw_types.specs.Readings.{type_at, shape_tree, types_in_shape}
+use Rattle.zw_types.specs.Tables.{TypeTable, IsOpen, IsShapeOf, Keeps, resolved}
 use Rattle.zw_types.specs.Entries.{trees_of, table_of}
 use Rattle.zw_types.proofs.EntryLemmas.{length-trees_of}
-use Rattle.zw_types.proofs.TableLemmas.{with_shape, AreEntries-set, table_of-set, Keeps-resolved}
+use Rattle.zw_types.proofs.TableLemmas.{with_errors, with_shape, AreEntries-set, table_of-set, Keeps-resolved}
 use Rattle.zw_types.proofs.types.Types.resolve.Goals as goal
 
 pub invariant_of-self : goal.invariant_of-self
@@ -16,7 +16,11 @@ invariant_of-self c =
     let within : c.args.id.0 < length es = omega (arith, length-trees_of es, ap (length {A = TypeTree}) same) in
     let known : All (λ j. j < length es) (types_in_shape c.args.shape) = All-weaker (λ j. j < length c.args.self.now.trees) (λ j. j < length es) (λ j l. omega (arith, length-trees_of es, ap (length {A = TypeTree}) same)) (types_in_shape c.args.shape) c.requires.known in
     let is_open : IsOpen (table_of es c.self.inside.errors.items) c.args.id.0 = subst (λ (t : TypeTable). IsOpen t c.args.id.0) (sym c.self.view_is) (c.if-not-is_open.ensures.0 refl) in
-    (AreEntries-set es c.args.id.0 c.index_mut.result.now within c.index_mut.ensures.value c.args.shape c.self.invariant.0 is_open known, c.self.invariant.1)
+    let container : IsTrue (is_container (type_at c.args.self.now.trees c.args.id)) = (c.if-not-is_open.ensures.0 refl).0 in
+    let P : TypeTable → Type 0 = λ t. IsShapeOf t (type_at t.trees c.args.id) (shape_tree t.trees c.args.shape) in
+    let fits : P (table_of es c.self.inside.errors.items) = subst P (sym c.self.view_is) (c.requires.fits container) in
+    let fitting = with_errors es c.self.inside.errors.items [] (type_at (trees_of es) c.args.id) (shape_tree (trees_of es) c.args.shape) fits in
+    (AreEntries-set es c.args.id.0 c.index_mut.result.now within c.index_mut.ensures.value c.args.shape c.self.invariant.0 is_open known fitting, c.self.invariant.1)
 
 pub returns-clause-done : goal.returns-clause-done
 returns-clause-done c =
