@@ -1,16 +1,36 @@
--- The children of a node by what they are for.
-use Rattle.std.specs.Prelude.{ℕ, Bool, true, false, List, [], ◌∷◌, if◌then◌else◌, Some, None}
-use Rattle.zw_tree.specs.Trees.{Forest}
-use Rattle.zw_tree.specs.Numbering.{node_at, children}
+-- The tree of a node, and its children by what they are for.
+use Rattle.std.specs.Prelude.{ℕ, suc, ◌+◌, Bool, true, false, nat_eq, List, [], ◌∷◌, if◌then◌else◌, Option, Some, None}
+use Rattle.zw_base.specs.declared.stop.Place.{Place}
+use Rattle.zw_tree.specs.Trees.{Forest, none, tree, count}
+use Rattle.zw_tree.specs.Numbering.{from, first_root, inside_first, children}
 use Rattle.zw_tree.specs.declared.ast.Entry.{Entry}
 use Rattle.zw_tree.specs.declared.kind.NodeKind.{NodeKind}
 use Rattle.zw_tree.specs.declared.kind.NodeKind.TheVariants as kind
 
-abbrev pub kind_at : Forest Entry → ℕ → NodeKind
-kind_at forest n = elim (node_at forest n) [ None ↦ kind.Root | Some entry ↦ entry.node.kind ]
+-- ---- the tree of a node
 
-abbrev pub name_at : Forest Entry → ℕ → List ℕ
-name_at forest n = elim (node_at forest n) [ None ↦ [] | Some entry ↦ entry.name ]
+-- the first tree alone
+abbrev pub first_tree : Forest Entry → Forest Entry
+first_tree none = none
+first_tree (tree root inside behind) = tree root inside none
+
+-- the tree of the node with this number
+abbrev pub tree_at : Forest Entry → ℕ → Forest Entry
+tree_at forest n = first_tree (from forest n)
+
+-- the node with this number
+abbrev pub entry_at : Forest Entry → ℕ → Option Entry
+entry_at forest n = first_root (tree_at forest n)
+
+-- the kind of the first root
+abbrev pub kind_of : Forest Entry → NodeKind
+kind_of here = elim (first_root here) [ None ↦ kind.Root | Some entry ↦ entry.node.kind ]
+
+-- where the first root begins
+abbrev pub place_of : Forest Entry → Place
+place_of here = elim (first_root here) [ None ↦ record { file = 0; line = 1; column = 1 } | Some entry ↦ entry.node.place ]
+
+-- ---- kinds of words
 
 abbrev pub is_name : NodeKind → Bool
 is_name kind.Name = true
@@ -44,26 +64,55 @@ abbrev pub is_comptime_word : NodeKind → Bool
 is_comptime_word kind.ComptimeWord = true
 is_comptime_word _ = false
 
-abbrev pub without_words : Forest Entry → List ℕ → List ℕ
-without_words forest [] = []
-without_words forest (n ∷ ns) = if is_word (kind_at forest n) then without_words forest ns else n ∷ without_words forest ns
+-- ---- what stands below the first root
 
--- the children that are forms, in order
-abbrev pub forms : Forest Entry → ℕ → List ℕ
-forms forest n = without_words forest (children forest n)
+-- whether one of the roots is of such a kind
+abbrev pub any_is : (NodeKind → Bool) → Forest Entry → Bool
+any_is is none = false
+any_is is (tree root inside behind) = if is root.node.kind then true else any_is is behind
 
--- whether one of the nodes is of such a kind
-abbrev pub any_is : Forest Entry → (NodeKind → Bool) → List ℕ → Bool
-any_is forest is [] = false
-any_is forest is (n ∷ ns) = if is (kind_at forest n) then true else any_is forest is ns
-
-abbrev pub has : Forest Entry → ℕ → (NodeKind → Bool) → Bool
-has forest n is = any_is forest is (children forest n)
+abbrev pub has : Forest Entry → (NodeKind → Bool) → Bool
+has here is = any_is is (inside_first here)
 
 -- the name that a declaration or parameter introduces
-abbrev pub first_name : Forest Entry → List ℕ → List ℕ
-first_name forest [] = []
-first_name forest (n ∷ ns) = if is_name (kind_at forest n) then name_at forest n else first_name forest ns
+abbrev pub first_name : Forest Entry → List ℕ
+first_name none = []
+first_name (tree root inside behind) = if is_name root.node.kind then root.name else first_name behind
 
-abbrev pub declared_name : Forest Entry → ℕ → List ℕ
-declared_name forest n = first_name forest (children forest n)
+abbrev pub declared_name : Forest Entry → List ℕ
+declared_name here = first_name (inside_first here)
+
+-- ---- the children of the first root, which has a number
+
+-- the trees from the root with this number on; none where no root has it
+abbrev pub root_numbered : Forest Entry → ℕ → ℕ → Forest Entry
+root_numbered none first n = none
+root_numbered (tree root inside behind) first n =
+    elim (nat_eq first n) [ true ↦ tree root inside behind | false ↦ root_numbered behind (suc (first + count inside)) n ]
+
+-- the trees from a child of the first root on
+abbrev pub child_tree : Forest Entry → ℕ → ℕ → Forest Entry
+child_tree here n child = root_numbered (inside_first here) (suc n) child
+
+-- the roots that are forms
+abbrev pub form_roots : Forest Entry → ℕ → List ℕ
+form_roots none first = []
+form_roots (tree root inside behind) first =
+    if is_word root.node.kind then form_roots behind (suc (first + count inside)) else first ∷ form_roots behind (suc (first + count inside))
+
+-- the children of the first root that are forms, in order
+abbrev pub forms_below : Forest Entry → ℕ → List ℕ
+forms_below here n = form_roots (inside_first here) (suc n)
+
+-- ---- the members of a file
+
+abbrev pub members : Forest Entry → List ℕ
+members forest = children forest 0
+
+abbrev pub is_among : List ℕ → ℕ → Bool
+is_among [] n = false
+is_among (m ∷ ms) n = if nat_eq m n then true else is_among ms n
+
+-- the name of the member with this number
+abbrev pub member_name : Forest Entry → ℕ → List ℕ
+member_name forest n = if is_among (members forest) n then declared_name (tree_at forest n) else []

@@ -29,14 +29,14 @@ pub data Next (N : Type 0) : Type 0 where
   Emit : Op → TypeTree → List (Operand N) → Next N
   -- what a name stands for
   Lookup : List ℕ → Next N
-  -- from here on this node, a parameter, stands for an argument of this type
-  Bind : ℕ → TypeTree → Next N
+  -- from here on this name, of a parameter, stands for the next argument, of this type
+  Bind : List ℕ → TypeTree → Next N
   -- from here on the function's result has this type; and which type that is, as a value
   Returns : TypeTree → Next N
   Result : Next N
   -- the branch quota is raised
   Raise : ValueTree → Next N
-  -- the form's part; a stop at the form, or at another node
+  -- the form's part; a stop at the form, or at a child
   Done : Part N → Next N
   Halt : StopKind → Next N
   HaltAt : ℕ → StopKind → Next N

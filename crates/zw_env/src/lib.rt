@@ -3,4 +3,4 @@
 
 mod laws;
 
-pub use laws::{computing_forms_say_the_same, counts_are_worked};
+pub use laws::counts_are_worked;

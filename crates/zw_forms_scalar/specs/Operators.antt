@@ -7,8 +7,7 @@ use Rattle.zw_tree.specs.declared.kind.NodeKind.{NodeKind}
 use Rattle.zw_tree.specs.declared.kind.NodeKind.TheVariants as kind
 use Rattle.zw_types.specs.TypeTrees as tree
 use Rattle.zw_types.specs.TypeTrees.{TypeTree, ValueTree}
-use Rattle.zw_values.specs.Coercions.{integer_of}
-use Rattle.zw_env.specs.Sameness.{peer_of}
+use Rattle.zw_values.specs.Coercions.{integer_of, peer_of}
 use Rattle.zw_values.specs.Operations.{Logic, And, Or}
 use Rattle.zw_typed.specs.Nodes.{Decide}
 use Rattle.zw_env.specs.Parts.{Part, Next, Visit, Operation, Emit, Done, Halt, a_value, in_type, alone}

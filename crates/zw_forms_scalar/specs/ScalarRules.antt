@@ -1,5 +1,7 @@
 -- The rules of literals, names, parentheses, operators and builtins. One case for each kind of node: a later form adds its own.
-use Rattle.std.specs.Prelude.{ℕ, Bool, ℤ, List, [], ◌∷◌, Option, Some, None}
+use Rattle.std.specs.Prelude.{ℕ, Bool, ℤ, if◌then◌else◌, List, [], ◌∷◌, Option, Some, None}
+use Rattle.zw_num.specs.declared.int_ty.IntTy.TheVariants.{Comptime}
+use Rattle.zw_num.specs.Arithmetic.{is_in}
 use Rattle.zw_base.specs.declared.stop.StopKind.TheVariants.{Error, Limit}
 use Rattle.zw_tree.specs.declared.ast.Entry.{Entry}
 use Rattle.zw_tree.specs.declared.kind.NodeKind.{NodeKind}
@@ -14,7 +16,7 @@ use Rattle.zw_forms_scalar.specs.Builtins.{operand, builtin_rule}
 
 -- a number or character; past the range of `comptime_int` it has none
 abbrev pub literal : {N : Type 0} → Option ℤ → Next N
-literal (Some z) = Done (a_value tree.ComptimeIntType (tree.NumberValue z))
+literal (Some z) = if is_in Comptime z then Done (a_value tree.ComptimeIntType (tree.NumberValue z)) else Halt (Limit 9)
 literal None = Halt (Limit 9)
 
 -- a name that isn't quoted may be that of a primitive

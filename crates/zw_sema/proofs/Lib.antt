@@ -1,1 +1,7 @@
 pub mod BoundLemmas
+pub mod UnreachedLemmas
+pub mod OperationLemmas
+pub mod ScalarLemmas
+pub mod BuiltinLemmas
+pub mod DeclarationLemmas
+pub mod KnownLemmas

@@ -4,7 +4,6 @@ use Rattle.zw_base.specs.declared.stop.StopKind.{StopKind}
 use Rattle.zw_session.specs.Sessions as session
 use Rattle.zw_session.specs.Sessions.{Scalar, Number, Truth, HostEvent, Call, Halt, Session, SessionEnd}
 use Rattle.zw_tree.specs.Trees.{Forest, none, tree, beside}
-use Rattle.zw_tree.specs.Numbering.{node_at}
 use Rattle.zw_tree.specs.declared.ast.Entry.{Entry}
 use Rattle.zw_tree.specs.declared.kind.NodeKind.{NodeKind}
 use Rattle.zw_tree.specs.declared.kind.NodeKind.TheVariants as kind
@@ -64,28 +63,24 @@ plain_const column text value = form kind.Const column (name (column + 6) text �
 abbrev pub return_of : ℕ → Forest Entry → Forest Entry
 return_of column value = form kind.Return column (value ∷ [])
 
--- ---- what is told: the stop and the column of its node
+-- ---- what is told: the stop and its column
 
 pub data Told : Type 0 where
   Fine : Told
   Stops : StopKind → ℕ → Told
   WantsMore : Told
 
-abbrev pub column_of : Option Entry → ℕ
-column_of None = 0
-column_of (Some entry) = entry.node.place.column
-
-abbrev pub told_of : Forest Entry → Analysis → Told
-told_of forest (Accepted exports) = Fine
-told_of forest (Refused why n) = Stops why (column_of (node_at forest n))
-told_of forest NeedsMore = WantsMore
+abbrev pub told_of : Analysis → Told
+told_of (Accepted instances state) = Fine
+told_of (Refused why place state) = Stops why place.column
+told_of NeedsMore = WantsMore
 
 -- a bound that is enough for small texts
 abbrev pub enough : ℕ
 enough = 1000
 
 abbrev pub told : List (Forest Entry) → Told
-told members = told_of (file members) (analysed enough (file members))
+told members = told_of (analysed enough (file members))
 
 -- ---- sessions
 

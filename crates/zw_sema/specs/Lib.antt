@@ -7,3 +7,9 @@ pub mod WorkedDeclarations
 pub mod WorkedHost
 pub mod WorkedWanted
 pub mod WorkedForms
+pub mod Unreached
+pub mod WorkedPrograms
+pub mod Known
+pub mod WorkedTypes
+pub mod ProgramsOf
+pub mod WorkedUnreached

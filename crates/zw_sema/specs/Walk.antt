@@ -4,21 +4,23 @@ use Rattle.std.specs.Prelude.{ℕ, zero, suc, Bool, true, false, ◌&&◌, nat_e
 use Rattle.std.specs.Str.{bytes_eq}
 use Rattle.zw_base.specs.declared.stop.StopKind.{StopKind}
 use Rattle.zw_base.specs.declared.stop.StopKind.TheVariants.{Error, Limit}
+use Rattle.zw_base.specs.declared.stop.Place.{Place}
 use Rattle.zw_tree.specs.Trees.{Forest}
-use Rattle.zw_tree.specs.Numbering.{node_at, children}
+use Rattle.zw_tree.specs.Numbering.{first_root}
 use Rattle.zw_tree.specs.declared.ast.Entry.{Entry}
 use Rattle.zw_tree.specs.declared.kind.NodeKind.{NodeKind}
 use Rattle.zw_tree.specs.declared.kind.NodeKind.TheVariants as kind
 use Rattle.zw_types.specs.TypeTrees as tree
 use Rattle.zw_types.specs.TypeTrees.{TypeTree, ValueTree}
-use Rattle.zw_env.specs.Sameness.{are_same, coercion}
 use Rattle.zw_values.specs.ObjectStore.{Stage, at_compile_time, at_run_time}
+use Rattle.zw_values.specs.Sameness.{is_same}
+use Rattle.zw_values.specs.Coercions.{coercion}
 use Rattle.zw_values.specs.Operations as operation
 use Rattle.zw_values.specs.Operations.{Outcome, applied}
 use Rattle.zw_typed.specs.Nodes.{Op, Constant, Argument, Operate, Become, InOrder, TypedNode, node, no_nodes, node_and, nodes_from}
 use Rattle.zw_env.specs.Parts.{Part, Operand, Next, Visit, VisitKnown, VisitUnevaluated, Operation, Emit, Lookup, Bind, Returns, Raise, Done, Halt, HaltAt, a_value, a_node, is_lost}
 use Rattle.zw_env.specs.Parts as next
-use Rattle.zw_env.specs.Children.{kind_at, forms, has, declared_name, is_extern_word}
+use Rattle.zw_env.specs.Children.{tree_at, kind_of, place_of, has, declared_name, is_extern_word, child_tree, forms_below, members}
 use Rattle.zw_env.specs.Counting.{Counters, begun, resumed, raised, visited, walked}
 use Rattle.zw_forms_scalar.specs.ScalarRules.{scalar_rule}
 use Rattle.zw_forms_decl.specs.DeclarationRules.{nothing, declaration_rule}
@@ -47,16 +49,19 @@ pub record State : Type 0 where
   pub result : Option TypeTree
   pub declarations : List (ℕ × Progress)
 
--- the node that is walked, the type that is wanted of it, and whether it is evaluated at compile time
+-- The node that is walked, with its tree and those behind it below the same parent; the kind of the form that asked for it; the type that is
+-- wanted of it; and whether it is evaluated at compile time.
 pub record Task : Type 0 where
   pub node : ℕ
+  pub here : Forest Entry
+  pub outer : Option NodeKind
   pub wanted : Option TypeTree
   pub stage : Stage
 
--- a part and the state behind it, a stop at a node, or the bound on the walk was too small
+-- A part and the state behind it, a stop with its place and the state until then, or the bound on the walk was too small.
 pub data Out : Type 0 where
   Found : RunPart → State → Out
-  Stopped : StopKind → ℕ → Out
+  Stopped : StopKind → Place → State → Out
   TooSmall : Out
 
 -- ---- parts become of a type, and of an operation
@@ -74,7 +79,7 @@ abbrev pub become : RunPart → TypeTree → RunPart
 become part ty =
     elim part.known [
       | Some value ↦ a_value ty value
-      | None ↦ elim (are_same part.ty ty) [ true ↦ part | false ↦ a_node ty (node Become ty (node_and (node_of part) no_nodes)) ]
+      | None ↦ elim (is_same part.ty ty) [ true ↦ part | false ↦ a_node ty (node Become ty (node_and (node_of part) no_nodes)) ]
     ]
 
 -- the part as one of the type, or the error that is due
@@ -146,19 +151,23 @@ is_declaration _ = false
 abbrev pub named_among : Forest Entry → List ℕ → List ℕ → Option ℕ
 named_among forest [] name = None
 named_among forest (n ∷ ns) name =
-    if is_declaration (kind_at forest n) && bytes_eq (declared_name forest n) name then Some n else named_among forest ns name
+    if is_declaration (kind_of (tree_at forest n)) && bytes_eq (declared_name (tree_at forest n)) name then Some n else named_among forest ns name
 
 -- the file's declaration of a name
 abbrev pub declaration_named : Forest Entry → List ℕ → Option ℕ
-declaration_named forest name = named_among forest (children forest 0) name
+declaration_named forest name = named_among forest (members forest) name
 
 -- constants and functions of the host are built; other declarations aren't yet
-abbrev pub is_built : Forest Entry → ℕ → Bool
-is_built forest n = elim (kind_at forest n) [ kind.Const ↦ true | kind.Function ↦ has forest n is_extern_word | _ ↦ false ]
+abbrev pub is_built : Forest Entry → Bool
+is_built here = elim (kind_of here) [ kind.Const ↦ true | kind.Function ↦ has here is_extern_word | _ ↦ false ]
 
 abbrev pub progress_of : List (ℕ × Progress) → ℕ → Option Progress
 progress_of [] n = None
 progress_of ((m, progress) ∷ more) n = if nat_eq m n then Some progress else progress_of more n
+
+-- whether a name was found to be that of the declaration
+abbrev pub is_met : ℕ → State → Bool
+is_met n state = elim (progress_of state.declarations n) [ None ↦ false | Some progress ↦ true ]
 
 -- the unit of a declaration has a quota and names of its own
 abbrev pub unit_begun : ℕ → State → State
@@ -182,16 +191,16 @@ argument_bound name ty state =
 -- what goes on with a part
 abbrev pub on_part : Out → (RunPart → State → Out) → Out
 on_part (Found part state) f = f part state
-on_part (Stopped why n) f = Stopped why n
+on_part (Stopped why place state) f = Stopped why place state
 on_part TooSmall f = TooSmall
 
-abbrev pub on_result : ℕ → Result RunPart StopKind → (RunPart → Out) → Out
-on_result n (Ok part) f = f part
-on_result n (Err why) f = Stopped why n
+abbrev pub on_result : Task → State → Result RunPart StopKind → (RunPart → Out) → Out
+on_result task state (Ok part) f = f part
+on_result task state (Err why) f = Stopped why (place_of task.here) state
 
-abbrev pub on_operands : ℕ → Result (List RunPart) ℕ → (List RunPart → Out) → Out
-on_operands n (Ok parts) f = f parts
-on_operands n (Err error) f = Stopped (Error error) n
+abbrev pub on_operands : Task → State → Result (List RunPart) ℕ → (List RunPart → Out) → Out
+on_operands task state (Ok parts) f = f parts
+on_operands task state (Err error) f = Stopped (Error error) (place_of task.here) state
 
 -- The walk at other nodes, or with more parts.
 abbrev pub Go : Type 0
@@ -201,45 +210,55 @@ Go = Task → List RunPart → State → Out
 abbrev pub with_part : Go → Task → List RunPart → RunPart → State → Out
 with_part go task parts part state = go task (parts ++ part ∷ []) state
 
+abbrev pub child_task : Task → ℕ → Option TypeTree → Stage → Task
+child_task task child wanted stage =
+    record { node = child; here = child_tree task.here task.node child; outer = Some (kind_of task.here); wanted = wanted; stage = stage }
+
 -- a child's part, then the form again
 abbrev pub visiting : Go → Task → List RunPart → State → ℕ → Option TypeTree → Stage → Out
 visiting go task parts state child wanted stage =
-    on_part (go (record { node = child; wanted = wanted; stage = stage }) [] state) (λ part behind. with_part go task parts part behind)
+    on_part (go (child_task task child wanted stage) [] state)
+    (λ part behind. with_part go task parts part behind)
 
 -- a form's part becomes of the type that is wanted, unless the form that wants it will find that it can't be used
 abbrev pub wanted_part : RunPart → TypeTree → Result RunPart ℕ
 wanted_part part ty = elim (is_lost part) [ true ↦ Ok part | false ↦ coerced part ty ]
 
-abbrev pub finished : Task → State → RunPart → Out
-finished task state part =
-    elim task.wanted [
-      | None ↦ Found part state
-      | Some ty ↦ elim (wanted_part part ty) [ Ok p ↦ Found p state | Err error ↦ Stopped (Error error) task.node ]
-    ]
+abbrev pub on_wanted : Task → State → Result RunPart ℕ → Out
+on_wanted task state (Ok part) = Found part state
+on_wanted task state (Err error) = Stopped (Error error) (place_of task.here) state
+
+abbrev pub finished : Option TypeTree → Task → State → RunPart → Out
+finished None task state part = Found part state
+finished (Some ty) task state part = on_wanted task state (wanted_part part ty)
 
 -- a name that is bound: what isn't known can't be used at compile time
 abbrev pub mentioned : Stage → RunPart → Result RunPart StopKind
 mentioned at_run_time part = Ok part
 mentioned at_compile_time part = elim part.known [ Some value ↦ Ok part | None ↦ Err (Error 23) ]
 
--- a declaration is analysed when it is first mentioned, and can't need itself
-abbrev pub declaration_part : Go → Task → List RunPart → State → ℕ → Option Progress → Out
-declaration_part go task parts state n None =
-    on_part (go (record { node = n; wanted = None; stage = at_compile_time }) [] (unit_begun n state))
-    (λ part behind. with_part go task parts part (unit_ended n part state behind))
-declaration_part go task parts state n (Some UnderWay) = Stopped (Error 26) task.node
-declaration_part go task parts state n (Some (Analysed part)) = with_part go task parts part state
+-- the task of a unit
+abbrev pub unit_task : Forest Entry → ℕ → Stage → Task
+unit_task forest n stage = record { node = n; here = tree_at forest n; outer = None; wanted = None; stage = stage }
 
-abbrev pub if_built : Go → Task → List RunPart → State → ℕ → Bool → Out
-if_built go task parts state n true = declaration_part go task parts state n (progress_of state.declarations n)
-if_built go task parts state n false = Stopped (Error 36) task.node
+-- a declaration is analysed when it is first mentioned, and can't need itself
+abbrev pub declaration_part : Forest Entry → Go → Task → List RunPart → State → ℕ → Option Progress → Out
+declaration_part forest go task parts state n None =
+    on_part (go (unit_task forest n at_compile_time) [] (unit_begun n state))
+    (λ part behind. with_part go task parts part (unit_ended n part state behind))
+declaration_part forest go task parts state n (Some UnderWay) = Stopped (Error 26) (place_of task.here) state
+declaration_part forest go task parts state n (Some (Analysed part)) = with_part go task parts part state
+
+abbrev pub if_built : Forest Entry → Go → Task → List RunPart → State → ℕ → Bool → Out
+if_built forest go task parts state n true = declaration_part forest go task parts state n (progress_of state.declarations n)
+if_built forest go task parts state n false = Stopped (Error 36) (place_of task.here) (unit_begun n state)
 
 -- what a name is bound to, and which declaration has it
 abbrev pub name_found : Forest Entry → Go → Task → List RunPart → State → Option RunPart → Option ℕ → Out
 name_found forest go task parts state (Some part) declared =
-    on_result task.node (mentioned task.stage part) (λ p. with_part go task parts p state)
-name_found forest go task parts state None None = Stopped (Error 9) task.node
-name_found forest go task parts state None (Some n) = if_built go task parts state n (is_built forest n)
+    on_result task state (mentioned task.stage part) (λ p. with_part go task parts p state)
+name_found forest go task parts state None None = Stopped (Error 9) (place_of task.here) state
+name_found forest go task parts state None (Some n) = if_built forest go task parts state n (is_built (tree_at forest n))
 
 abbrev pub result_part : Option TypeTree → RunPart
 result_part None = a_value tree.TypeType (tree.TypeValue tree.VoidType)
@@ -255,31 +274,32 @@ answered forest go task parts state (Visit child wanted) = visiting go task part
 answered forest go task parts state (VisitKnown child wanted) = visiting go task parts state child wanted at_compile_time
 answered forest go task parts state (VisitUnevaluated child wanted) = visiting go task parts state child wanted at_run_time
 answered forest go task parts state (Operation name ty operands) =
-    on_operands task.node (operand_parts operands) (λ values.
-    on_result task.node (operated name ty values) (λ part. with_part go task parts part state))
+    on_operands task state (operand_parts operands) (λ values.
+    on_result task state (operated name ty values) (λ part. with_part go task parts part state))
 answered forest go task parts state (Emit op ty operands) =
-    on_operands task.node (operand_parts operands) (λ values.
-    on_result task.node (emitted task.stage op ty values) (λ part. with_part go task parts part state))
+    on_operands task state (operand_parts operands) (λ values.
+    on_result task state (emitted task.stage op ty values) (λ part. with_part go task parts part state))
 answered forest go task parts state (Lookup name) =
     name_found forest go task parts state (bound_to state.bound name) (declaration_named forest name)
-answered forest go task parts state (Bind n ty) = with_part go task parts nothing (argument_bound (declared_name forest n) ty state)
+answered forest go task parts state (Bind name ty) = with_part go task parts nothing (argument_bound name ty state)
 answered forest go task parts state (Returns ty) = with_part go task parts nothing (record state { result = Some ty })
 answered forest go task parts state next.Result = with_part go task parts (result_part state.result) state
 answered forest go task parts state (Raise value) = with_part go task parts nothing (quota_raised value state)
-answered forest go task parts state (Done part) = finished task state part
-answered forest go task parts state (Halt why) = Stopped why task.node
-answered forest go task parts state (HaltAt n why) = Stopped why n
+answered forest go task parts state (Done part) = finished task.wanted task state part
+answered forest go task parts state (Halt why) = Stopped why (place_of task.here) state
+answered forest go task parts state (HaltAt n why) = Stopped why (place_of (child_tree task.here task.node n)) state
 
 -- what the form at a node asks for: the rule of its kind
-abbrev pub asked : Forest Entry → Task → List RunPart → Next TypedNode
-asked forest task parts =
-    elim (node_at forest task.node) [
-      | None ↦ Halt (Error 36)
-      | Some entry ↦ elim (declaration_rule forest entry.node.kind task.node parts) [
-        | Some next ↦ next
-        | None ↦ scalar_rule entry.node.kind entry (forms forest task.node) task.wanted parts
-      ]
+abbrev pub asked_of : Forest Entry → Task → List RunPart → Option Entry → Next TypedNode
+asked_of forest task parts None = Halt (Error 36)
+asked_of forest task parts (Some entry) =
+    elim (declaration_rule forest task.here task.outer entry.node.kind task.node parts) [
+      | Some next ↦ next
+      | None ↦ scalar_rule entry.node.kind entry (forms_below task.here task.node) task.wanted parts
     ]
+
+abbrev pub asked : Forest Entry → Task → List RunPart → Next TypedNode
+asked forest task parts = asked_of forest task parts (first_root task.here)
 
 -- a node is counted when it is come to, before it has parts
 abbrev pub counted_in : Stage → Counters → Result Counters StopKind
@@ -291,7 +311,7 @@ counted task [] state = counted_in task.stage state.counters
 counted task (part ∷ parts) state = Ok state.counters
 
 abbrev pub stepped : Forest Entry → Go → Task → List RunPart → State → Result Counters StopKind → Out
-stepped forest go task parts state (Err why) = Stopped why task.node
+stepped forest go task parts state (Err why) = Stopped why (place_of task.here) state
 stepped forest go task parts state (Ok counters) = answered forest go task parts (record state { counters = counters }) (asked forest task parts)
 
 -- The part of a node with these parts so far. The bound is on how deep the walk goes: each step lowers it.

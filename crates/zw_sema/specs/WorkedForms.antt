@@ -71,8 +71,8 @@ pub record WorkedOperators : Type 0 where
       told (of_bytes (builtin 39 (codes "as") (mention 43 u8 ∷ builtin 47 (codes "as") (mention 51 (codes "comptime_int") ∷ mention 65 a ∷ []) ∷ []))) ≡ Stops (Error 16) 39
   -- a number past 2 ^ 127 - 1 has no value
   pub past_literal : told (constant u8 (written kind.Number 27 [] None [])) ≡ Stops (Limit 9) 27
-  -- parentheses in one another
-  pub deep : run (constant u8 (nested 12 27)) (called f [] ∷ []) [] ≡ is 1
+  -- parentheses in one another, nearly as deep as a text may nest
+  pub deep : run (constant u8 (nested 252 27)) (called f [] ∷ []) [] ≡ is 1
 
 pub record WorkedFunctions : Type 0 where
   -- `export fn f() void { }`

@@ -88,3 +88,9 @@ pub record WorkedTruths : Type 0 where
   pub and_true : run (decides kind.And) (called f (Truth true ∷ []) ∷ []) (0 ∷ []) ≡ ends (shows h [] ∷ gives (Truth false) ∷ []) Finished
   pub and_false : run (decides kind.And) (called f (Truth false ∷ []) ∷ []) (1 ∷ []) ≡ ends (gives (Truth false) ∷ []) Finished
   pub or_true : run (decides kind.Or) (called f (Truth true ∷ []) ∷ []) (0 ∷ []) ≡ ends (gives (Truth true) ∷ []) Finished
+  -- `true or 1`: the right operand isn't analysed; `c or 1`: it is
+  pub or_not_analysed : run (on_truth (of_two kind.Or 36 (mention 36 (codes "true")) (number 44 1))) (called f (Truth false ∷ []) ∷ []) []
+      ≡ ends (gives (Truth true) ∷ []) Finished
+  pub or_analysed : told (on_truth (of_two kind.Or 36 (mention 36 c) (number 41 1))) ≡ Stops (Error 20) 36
+  -- `1 and c`: the left operand decides nothing, told at the `and`
+  pub left_number : told (on_truth (of_two kind.And 36 (number 36 1) (mention 42 c))) ≡ Stops (Error 20) 36

@@ -6,7 +6,7 @@ use Rattle.zw_session.specs.Sessions.{Finished}
 use Rattle.zw_tree.specs.Trees.{Forest}
 use Rattle.zw_tree.specs.declared.ast.Entry.{Entry}
 use Rattle.zw_tree.specs.declared.kind.NodeKind.TheVariants as kind
-use Rattle.zw_sema.specs.Building.{mention, number, builtin, parens, parameter, export_of, return_of, typed_const, plain_const, Fine, Stops, told, called, run, n, gives, ends, panics}
+use Rattle.zw_sema.specs.Building.{form, mention, number, builtin, parens, parameter, export_of, return_of, typed_const, plain_const, Fine, Stops, told, called, run, n, gives, ends, panics}
 use Rattle.zw_sema.specs.WorkedExpressions.{a, b, f, u8, of_two, constant}
 use Rattle.zw_sema.specs.WorkedDeclarations.{gives_back}
 
@@ -45,3 +45,12 @@ pub record WorkedWanted : Type 0 where
   pub type_of :
       run (of_bytes (builtin 41 (codes "as") (builtin 45 (codes "TypeOf") (mention 53 a ∷ []) ∷ number 57 7 ∷ []))) (called f (n 0 ∷ n 0 ∷ []) ∷ []) []
       ≡ ends (gives (n 7) ∷ []) Finished
+  -- the amount of a shift of a `comptime_int` is one too, and has to be known: `1 << a`, told at the shift
+  pub literal_amount : told (of_bytes (of_two kind.ShiftLeft 41 (number 41 1) (mention 46 a))) ≡ Stops (Error 16) 41
+  -- a left operand that is no integer wants nothing of the right one: `true << 300`, told at the shift
+  pub no_amount : told (of_bytes (of_two kind.ShiftLeft 41 (mention 41 (codes "true")) (number 49 300))) ≡ Stops (Error 20) 41
+  -- the amount of `<<|` is of any unsigned type: `b <<| a` with a `u8`, which holds at the greatest `u16`; and none below 0: `a <<| -1`
+  pub saturating_amount : run (of_bytes (of_two kind.ShiftLeftSaturate 41 (mention 41 b) (mention 47 a))) (called f (n 200 ∷ n 1 ∷ []) ∷ []) [] ≡ ends (gives (n 65535) ∷ []) Finished
+  pub negative_amount : told (of_bytes (of_two kind.ShiftLeftSaturate 41 (mention 41 a) (form kind.Negate 47 (number 48 1 ∷ [])))) ≡ Stops (Error 20) 41
+  -- the operands of `@min` have none, so that one that doesn't fit the peer type is told at the builtin: `@min(a, 300)`
+  pub in_least : told (of_bytes (builtin 41 (codes "min") (mention 46 a ∷ number 49 300 ∷ []))) ≡ Stops (Error 15) 41

@@ -1,9 +1,15 @@
 // What holds of the definitions themselves.
+ghost use Rattle.zw_sema.specs.Known.{KnownValuesHaveTheirTypes};
 ghost use Rattle.zw_sema.specs.Laws.{StaysUnderLargerBounds};
+ghost use Rattle.zw_sema.specs.ProgramsOf.{ProgramsMeanTheirFiles};
+ghost use Rattle.zw_sema.specs.Unreached.{UnreachedIsFree, UnreachedIsSilent};
 ghost use Rattle.zw_sema.specs.WorkedDeclarations.{WorkedConstants};
 ghost use Rattle.zw_sema.specs.WorkedExpressions.{WorkedIntegers};
 ghost use Rattle.zw_sema.specs.WorkedForms.{WorkedFunctions, WorkedOperators};
 ghost use Rattle.zw_sema.specs.WorkedHost.{WorkedHost, WorkedTruths};
+ghost use Rattle.zw_sema.specs.WorkedPrograms.{WorkedPrograms};
+ghost use Rattle.zw_sema.specs.WorkedUnreached.{WorkedUnreached};
+ghost use Rattle.zw_sema.specs.WorkedTypes.{WorkedTypes};
 ghost use Rattle.zw_sema.specs.WorkedWanted.{WorkedWanted};
 
 /// What is told of small texts and what their sessions are, worked out by hand.
@@ -15,13 +21,36 @@ pub fn texts_are_worked()
     ensures wanted { WorkedWanted }
 {}
 
-/// On which types operators and builtins are defined, and what functions may be, worked out by hand.
+/// On which types operators and builtins are defined, what functions may be, and types as values, worked out by hand.
 pub fn forms_are_worked()
     ensures operators { WorkedOperators }
     ensures functions { WorkedFunctions }
+    ensures types { WorkedTypes }
 {}
 
 /// Where the bound on the walk's depth was enough, a larger one gives the same.
 pub fn larger_bounds_give_the_same()
     ensures { StaysUnderLargerBounds }
+{}
+
+/// Where a declaration wasn't reached, another one of its name in its place changes neither the first stop nor a session.
+pub fn unreached_declarations_are_free()
+    ensures analyses { UnreachedIsFree }
+    ensures sessions { UnreachedIsSilent }
+    ensures worked { WorkedUnreached }
+{}
+
+/// A file's functions as a program by numbers, and the weight of frames, worked out by hand.
+pub fn programs_are_worked()
+    ensures { WorkedPrograms }
+{}
+
+/// What is known of a part is a value of its type.
+pub fn known_values_have_their_types()
+    ensures { KnownValuesHaveTheirTypes }
+{}
+
+/// A program of a file has the file's sessions.
+pub fn programs_mean_their_files()
+    ensures { ProgramsMeanTheirFiles }
 {}

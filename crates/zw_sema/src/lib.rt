@@ -3,4 +3,8 @@
 
 mod laws;
 
-pub use laws::{forms_are_worked, larger_bounds_give_the_same, texts_are_worked};
+pub use laws::{
+    forms_are_worked, known_values_have_their_types, larger_bounds_give_the_same,
+    programs_are_worked, programs_mean_their_files, texts_are_worked,
+    unreached_declarations_are_free,
+};

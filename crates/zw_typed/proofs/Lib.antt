@@ -1,1 +1,3 @@
 pub mod StayingLemmas
+pub mod CallingLemmas
+pub mod NameLemmas

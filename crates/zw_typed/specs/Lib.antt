@@ -1,3 +1,9 @@
 pub mod Nodes
 pub mod NodeMeanings
 pub mod Exports
+pub mod Weights
+pub mod Programs
+pub mod WorkedPrograms
+pub mod HostTypes
+pub mod ValueTypes
+pub mod NodeTypes

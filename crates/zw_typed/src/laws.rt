@@ -1,9 +1,22 @@
 // What holds of the definitions themselves.
-ghost use Rattle.std.specs.Prelude.{List};
+ghost use Rattle.std.specs.Prelude.{◌≡◌, ℕ, List};
+ghost use Rattle.std.specs.Str.{is_utf8};
 ghost use Rattle.zw_session.specs.Bounds.{StaysEnded};
 ghost use Rattle.zw_typed.specs.Exports.{Exported, exports_machine};
+ghost use Rattle.zw_typed.specs.HostTypes.{is_utf8_name};
+ghost use Rattle.zw_typed.specs.WorkedPrograms.{WorkedPrograms};
 
 /// A call of an exported function that ended stays ended under a larger bound, so that sessions of it do.
 pub fn calls_stay_ended()
     ensures { (exports : List Exported) → StaysEnded (exports_machine exports) }
+{}
+
+/// A program by numbers, and the functions that it is read as, worked out by hand.
+pub fn programs_are_worked()
+    ensures { WorkedPrograms }
+{}
+
+/// The test of the names of functions that the host sees is that of UTF-8.
+pub fn names_are_utf8()
+    ensures { (name : List ℕ) → is_utf8_name name ≡ is_utf8 name }
 {}
