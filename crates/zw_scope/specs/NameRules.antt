@@ -10,7 +10,9 @@ use Rattle.zw_tree.specs.Trees.{Forest, none, tree}
 use Rattle.zw_tree.specs.declared.ast.Entry.{Entry}
 use Rattle.zw_tree.specs.declared.kind.NodeKind.{NodeKind}
 use Rattle.zw_tree.specs.declared.kind.NodeKind.TheVariants.{Function, Parameter, Field, Name, Block, While, For, Break, Continue, Return, Try, Identifier, QuotedIdentifier, StructLiteral, AnonymousStruct, FieldInit, ErrorSet, Struct, Enum, Union, Root}
-use Rattle.zw_scope.specs.Scopes.{Binding, OpenLabel, Scope, Standing, kind_of, is_name, is_block, is_capture, is_label, is_variable, is_inside_container, is_declaration, name_in, label_in, binds, has_name, innermost, all_standing}
+use Rattle.zw_scope.specs.declared.lists.Binding.{Binding}
+use Rattle.zw_scope.specs.declared.lists.OpenLabel.{OpenLabel}
+use Rattle.zw_scope.specs.Scopes.{Scope, Standing, kind_of, is_name, is_block, is_capture, is_label, is_variable, is_inside_container, is_declaration, name_in, label_in, binds, has_name, innermost, all_standing}
 
 -- a broken rule: the number of the error, and the node at which it is told
 pub record Violation : Type 0 where

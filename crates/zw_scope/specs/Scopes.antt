@@ -3,23 +3,12 @@
 use Rattle.std.specs.Prelude.{ℕ, suc, ◌+◌, Bool, true, false, not, ◌&&◌, ◌||◌, List, [], ◌∷◌, ◌++◌, Option, Some, None, if◌then◌else◌}
 use Rattle.std.specs.List.{list_any}
 use Rattle.std.specs.Str.{bytes_eq}
+use Rattle.zw_scope.specs.declared.lists.Binding.{Binding}
+use Rattle.zw_scope.specs.declared.lists.OpenLabel.{OpenLabel}
 use Rattle.zw_tree.specs.Trees.{Forest, none, tree, count}
 use Rattle.zw_tree.specs.declared.ast.Entry.{Entry}
 use Rattle.zw_tree.specs.declared.kind.NodeKind.{NodeKind}
 use Rattle.zw_tree.specs.declared.kind.NodeKind.TheVariants.{Root, Test, ComptimeBlock, Function, Parameter, Const, Var, Field, Name, QuotedName, Label, Capture, PointerCapture, Defer, ErrDefer, Block, Else, While, ContinueExpression, For, Struct, Enum, Union}
-
--- A name that is bound to the node of a local constant or variable, a parameter or a capture; or else to the node of a
--- declaration of a container.
-pub record Binding : Type 0 where
-  pub name : List ℕ
-  pub node : ℕ
-  pub is_local : Bool
-
--- a label of a block or a loop that is open, and in how many deferred statements of its function it stands
-pub record OpenLabel : Type 0 where
-  pub name : List ℕ
-  pub is_loop : Bool
-  pub defers : ℕ
 
 -- what surrounds a node: the visible names and the open labels, from the inside out; in how many deferred statements the innermost
 -- loop stands, where there is one; whether a function or a test surrounds it, and how many deferred statements of that

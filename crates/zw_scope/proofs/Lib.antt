@@ -1,0 +1,16 @@
+pub mod Violations
+pub mod Standing
+pub mod SayLemmas
+pub mod TableLemmas
+pub mod NumberLemmas
+pub mod ListLemmas
+pub mod BoundLemmas
+pub mod SiteLemmas
+pub mod PlacingLemmas
+pub mod PlaceLemmas
+pub mod RuleLemmas
+pub mod PrimitiveLemmas
+pub mod SetLemmas
+pub mod RepeatLemmas
+pub mod CheckLemmas
+pub mod MemberLemmas
