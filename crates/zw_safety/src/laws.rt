@@ -1,8 +1,8 @@
 // What holds of the definitions themselves.
 ghost use Rattle.std.specs.Prelude.{ℕ};
 ghost use Rattle.zw_num.specs.declared.op.TheConstants.{ADD, SUB, ADD_WRAP};
-ghost use Rattle.zw_safety.specs.Checked.{IsChecked};
-ghost use Rattle.zw_safety.specs.Code.{checked_code};
+ghost use Rattle.zw_safety_narrow.specs.Checked.{IsChecked};
+ghost use Rattle.zw_safety_narrow.specs.Code.{checked_code};
 
 /// The code of each operator is right wherever it stands.
 pub fn checked_code_is_right()

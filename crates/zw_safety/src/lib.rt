@@ -2,18 +2,8 @@
 //! crate knows nothing of Zig's text.
 #![tactic(auto)]
 
-mod casts;
-mod compare;
-mod counts;
-mod division;
 mod laws;
 mod operators;
-mod saturating;
-mod shifts;
-mod wide;
 
 pub use laws::checked_code_is_right;
 pub use operators::checked;
-
-#[cfg(test)]
-mod tests;

@@ -1,45 +1,81 @@
 // The code of checked operators.
-ghost use Rattle.std.specs.Prelude.{◌≡◌, ◌⊎◌, ◌≤◌, ◌-◌, ◌/◌, ◌^◌, ◌++◌, pos, OnOk};
-ghost use Rattle.zw_num.specs.Arithmetic.{width};
-ghost use Rattle.zw_safety.specs.Code.{add_code, sub_code, kept, less, if_panics};
-ghost use Rattle.zw_safety.specs.NarrowCode.{extension, above_least, extended, in_range, exact_code, narrowed, lifted, masked, moved, wrapped_code, fitted, is_u32, sum_code, difference_code};
-ghost use Rattle.zw_safety.specs.OperatorCode.{word_code, not_code, code_of_counts, code_of_one, code_of_bounds, code_of_order, code_of_shares, operator_code};
-ghost use Rattle.zw_safety.specs.Operators.{IsNarrow, IsServed, IsServedWide, IsRightCode};
-ghost use Rattle.zw_safety.specs.WideCode.{stored_code};
-ghost use Rattle.zw_num.specs.declared.int_ty.IntTy.TheVariants.{Sized};
+ghost use Rattle.std.specs.Prelude.{◌≡◌, ◌⊎◌, ◌≤◌, ◌++◌, OnOk};
+ghost use Rattle.zw_safety_narrow.specs.Operators.{IsServed, IsStored, IsRightCode, is_among};
+ghost use Rattle.zw_safety.specs.StoredCode.{wide_code_of_shares, wide_code_of_counts, wide_code_of_one, wide_code_of_bits, wide_code_of_order, wide_code, stored_code};
+ghost use Rattle.zw_safety.specs.WideOperators.{IsServedWide, wide_of_two, wide_of_one, is_wide_operator, last_type, goes_wide};
 
-use crate::casts::{
-    push_cast, push_distance, push_negated_wrapped, push_opposite, push_truncated, push_turned,
-};
-use crate::compare::{push_choice, push_comparison};
-use crate::counts::{push_leading, push_ones, push_trailing};
-use crate::division::{push_floor, push_modulo, push_quotient, push_rest};
-use crate::saturating::{push_saturated, push_saturated_product};
-use crate::shifts::{push_left, push_right};
-use crate::wide::{goes_wide, push_wide};
 use std::alloc::{AllocError, Global};
 use zw_num::IntTy;
 use zw_num::op::{
-    ABS, ADD, ADD_SAT, ADD_WRAP, BIT_AND, BIT_CAST, BIT_NOT, BIT_OR, BIT_XOR, CLZ, CTZ, DIV,
-    DIV_FLOOR, DIV_TRUNC, EQUAL, GREATER, GREATER_OR_EQUAL, INT_CAST, LESS, LESS_OR_EQUAL, MAX,
-    MIN, MOD, MUL, MUL_SAT, MUL_WRAP, NEG, NEG_WRAP, NOT, NOT_EQUAL, POP_COUNT, REM, REM_TRUNC,
-    SHL, SHR, SUB, SUB_SAT, SUB_WRAP, TRUNCATE,
+    ABS, ADD, ADD_WRAP, AS, BIT_AND, BIT_CAST, BIT_NOT, BIT_OR, BIT_XOR, CLZ, CTZ, DIV, DIV_FLOOR,
+    DIV_TRUNC, EQUAL, GREATER, GREATER_OR_EQUAL, INT_CAST, INT_FROM_BOOL, LESS, LESS_OR_EQUAL, MAX,
+    MIN, MOD, MUL, MUL_WRAP, NEG, NEG_WRAP, NOT_EQUAL, POP_COUNT, REM, REM_TRUNC, SHL, SHR, SUB,
+    SUB_WRAP, TRUNCATE,
 };
-use zw_wasm::{BinaryOperator, Comparison, Conversion, Instr, ValType};
+use zw_safety_narrow::push_operator;
+use zw_safety_wide::{
+    Compared, fill_words, push_wide_cast, push_wide_choice, push_wide_comparison,
+    push_wide_difference, push_wide_distance, push_wide_leading, push_wide_left,
+    push_wide_minus_one, push_wide_ones, push_wide_opposite, push_wide_product, push_wide_right,
+    push_wide_same, push_wide_share, push_wide_sum, push_wide_trailing, push_wide_truncated,
+    push_wide_word, push_wide_wrapped,
+};
+use zw_wasm::{BinaryOperator, Comparison, Instr};
 
-/// The cause of a panic where the exact result isn't in the type.
-pub const INTEGER_OVERFLOW: u8 = 1;
+const COMPARED_EQUAL: Compared = Compared {
+    signed: Comparison::Eq,
+    unsigned: Comparison::Eq,
+    left_below: false,
+    right_below: false,
+};
+
+const COMPARED_NOT_EQUAL: Compared = Compared {
+    signed: Comparison::Ne,
+    unsigned: Comparison::Ne,
+    left_below: true,
+    right_below: true,
+};
+
+const COMPARED_LESS: Compared = Compared {
+    signed: Comparison::LtS,
+    unsigned: Comparison::LtU,
+    left_below: true,
+    right_below: false,
+};
+
+const COMPARED_LESS_OR_EQUAL: Compared = Compared {
+    signed: Comparison::LeS,
+    unsigned: Comparison::LeU,
+    left_below: true,
+    right_below: false,
+};
+
+const COMPARED_GREATER: Compared = Compared {
+    signed: Comparison::GtS,
+    unsigned: Comparison::GtU,
+    left_below: false,
+    right_below: true,
+};
+
+const COMPARED_GREATER_OR_EQUAL: Compared = Compared {
+    signed: Comparison::GeS,
+    unsigned: Comparison::GeU,
+    left_below: false,
+    right_below: true,
+};
 
 /// Appends the code of an operator whose operands and result have these types. Served by now are, on integer types of at most 32
-/// bits, signed or not, and on `bool` as `u1`: `+`, `-`, `*`, `+%`, `-%`, `*%`, `+|`, `-|`, `*|`, `/`, `%`, `@divTrunc`, `@divFloor`, `@rem`, `@mod`, `<<`, `>>`, `&`, `|`,
-/// `^`, the comparisons, `@min`, `@max`; and of one operand, which is the left one, `-`, `-%`, `~`, `!`, `@abs`, `@as`,
-/// `@intFromBool`, `@intCast`, `@truncate`, `@bitCast`, `@clz`, `@ctz` and `@popCount`. The three types may differ. The code takes the operands, the right one
-/// from the top, and leaves the operator's value (Zig Language Reference 0.13.0, Operators and Builtin Functions); or it sets the
-/// globals 0 to 2 to the cause of a panic without a message and traps. A value fills its `i32` with copies of its sign. The code
-/// takes at most 128 instructions, and writes no local but the eight from `scratch` on, of which four are `i32` and the next four
-/// `i64`; for `ADD_WRAP` on types of at most 32 bits it writes none. `+`, `-`, `*`, `+%`, `-%` and `*%` are served on integer types of
-/// at most 64 bits, signed or not; there a value of a type of more than 32 bits fills its `i64` in the same way.
-#[tactic(auto, using(crate::proofs::WideRight::left_stays_narrow, crate::proofs::WideRight::stays_narrow))]
+/// bits, signed or not, and on `bool` as `u1`: `+`, `-`, `*`, `+%`, `-%`, `*%`, `+|`, `-|`, `*|`, `/`, `%`, `@divTrunc`, `@divFloor`,
+/// `@divExact`, `@rem`, `@mod`, `<<`, `>>`, `@shlExact`, `@shrExact`, `<<|` by amounts of an unsigned type, `&`, `|`, `^`, the comparisons,
+/// `@min`, `@max`; and of one operand, which is the left one, `-`, `-%`, `~`, `!`, `@abs`, `@as`, `@intFromBool`, `@intCast`, `@truncate`,
+/// `@bitCast`, `@clz`, `@ctz` and `@popCount`. Where a type has more than 32 bits, and at most 64, all of these but saturating operators,
+/// exact shifts, `@divExact` and `!`; and there `/`, `%`, `@divTrunc`, `@divFloor`, `@rem` and `@mod` of unsigned numbers, with a result
+/// whose type has all values of the left one's. The three types may differ. The code takes the operands, the right one from the top, and leaves the
+/// operator's value (Zig Language Reference 0.13.0, Operators and Builtin Functions); or it sets the globals 0 to 2 to the cause of a
+/// panic without a message and traps. A value fills its `i32`, or where its type has more than 32 bits its `i64`, with copies of its
+/// sign. The code takes at most 128 instructions, and writes no local but the eight from `scratch` on, of which four are `i32` and the
+/// next four `i64`; for `ADD_WRAP` on types of at most 32 bits it writes none.
+#[tactic(auto, using(crate::proofs::WideRight::left_stays_narrow, crate::proofs::WideRight::stays_narrow, crate::proofs::WideRight::left_goes_stored, crate::proofs::WideRight::goes_stored))]
 pub fn checked(
     _alloc: Global,
     op: u16,
@@ -61,8 +97,78 @@ pub fn checked(
     }
 }
 
-/// Appends the code of an operator: of sums, differences, products and bits here.
-fn push_operator(
+/// Whether the code of an operator is that for an `i64` among operands and result.
+fn goes_wide(op: u16, left: IntTy, right: IntTy, to: IntTy) -> bool
+    ensures { result ≡ goes_wide op left right to }
+{
+    is_wide_operator(op) && !fill_words(left, last_type(op, left, right), to)
+}
+
+/// Whether an operator is served on types of more than 32 bits.
+fn is_wide_operator(op: u16) -> bool
+    ensures { result ≡ is_wide_operator op }
+{
+    is_wide_of_two(op) || is_wide_of_one(op)
+}
+
+/// Whether it is one of two operands that is served there.
+fn is_wide_of_two(op: u16) -> bool
+    ensures { result ≡ is_among op wide_of_two }
+{
+    op == ADD
+        || op == SUB
+        || op == MUL
+        || op == ADD_WRAP
+        || op == SUB_WRAP
+        || op == MUL_WRAP
+        || op == BIT_AND
+        || op == BIT_OR
+        || op == BIT_XOR
+        || op == EQUAL
+        || op == NOT_EQUAL
+        || op == LESS
+        || op == LESS_OR_EQUAL
+        || op == GREATER
+        || op == GREATER_OR_EQUAL
+        || op == MIN
+        || op == MAX
+        || op == SHL
+        || op == SHR
+        || op == DIV
+        || op == REM
+        || op == DIV_TRUNC
+        || op == REM_TRUNC
+        || op == DIV_FLOOR
+        || op == MOD
+}
+
+/// Whether it is one of one operand that is served there.
+fn is_wide_of_one(op: u16) -> bool
+    ensures { result ≡ is_among op wide_of_one }
+{
+    op == NEG
+        || op == BIT_NOT
+        || op == NEG_WRAP
+        || op == AS
+        || op == INT_FROM_BOOL
+        || op == TRUNCATE
+        || op == BIT_CAST
+        || op == INT_CAST
+        || op == ABS
+        || op == CLZ
+        || op == CTZ
+        || op == POP_COUNT
+}
+
+/// The type of the last operand.
+fn last_type(op: u16, left: IntTy, right: IntTy) -> IntTy
+    ensures { result ≡ last_type op left right }
+{
+    if is_wide_of_one(op) { left } else { right }
+}
+
+/// Appends the code of an operator where a type has more than 32 bits: of sums, differences and products here.
+fn push_wide(
     op: u16,
     left: IntTy,
     right: IntTy,
@@ -70,57 +176,24 @@ fn push_operator(
     scratch: u32,
     out: &mut Vec<Instr>,
 ) -> Result<(), AllocError>
-    requires from_narrow { IsNarrow left }
-    requires to_narrow { IsNarrow to }
+    requires from_stored { IsStored left }
+    requires to_stored { IsStored to }
     requires scratch { scratch ≤ 4294967287 }
-    ensures { OnOk result (out.new.items ≡ out.old.items ++ operator_code op left right to scratch) }
+    ensures { OnOk result (out.new.items ≡ out.old.items ++ wide_code op left right to scratch) }
 {
     match op {
-        ADD => push_sum(left, right, to, scratch, out),
-        SUB => push_difference(left, right, to, scratch, out),
-        MUL => push_exact(BinaryOperator::Mul, left, right, to, scratch, out),
-        ADD_WRAP => push_wrapped(BinaryOperator::Add, to, out),
-        SUB_WRAP => push_wrapped(BinaryOperator::Sub, to, out),
-        MUL_WRAP => push_wrapped(BinaryOperator::Mul, to, out),
-        BIT_AND => push_word(BinaryOperator::And, out),
-        BIT_OR => push_word(BinaryOperator::Or, out),
-        BIT_XOR => push_word(BinaryOperator::Xor, out),
-        _ => push_bounds(op, left, right, to, scratch, out),
+        ADD => push_wide_sum(left, right, to, scratch, out),
+        SUB => push_wide_difference(left, right, to, scratch, out),
+        MUL => push_wide_product(left, right, to, scratch, out),
+        ADD_WRAP => push_wide_wrapped(BinaryOperator::Add, left, right, to, scratch, out),
+        SUB_WRAP => push_wide_wrapped(BinaryOperator::Sub, left, right, to, scratch, out),
+        MUL_WRAP => push_wide_wrapped(BinaryOperator::Mul, left, right, to, scratch, out),
+        _ => push_wide_order(op, left, right, to, scratch, out),
     }
-}
-
-/// Appends the code of a sum, difference or product that stops at the bounds of its type.
-fn push_bounds(
-    op: u16,
-    left: IntTy,
-    right: IntTy,
-    to: IntTy,
-    scratch: u32,
-    out: &mut Vec<Instr>,
-) -> Result<(), AllocError>
-    requires from_narrow { IsNarrow left }
-    requires to_narrow { IsNarrow to }
-    requires scratch { scratch ≤ 4294967287 }
-    ensures { OnOk result (out.new.items ≡ out.old.items ++ code_of_bounds op left right to scratch) }
-{
-    match op {
-        ADD_SAT => push_saturated(BinaryOperator::Add, left, right, to, scratch, out),
-        SUB_SAT => push_saturated(BinaryOperator::Sub, left, right, to, scratch, out),
-        MUL_SAT => push_saturated_product(left, right, to, scratch, out),
-        _ => push_order(op, left, right, to, scratch, out),
-    }
-}
-
-/// Appends an operator on 32 bits.
-fn push_word(operator: BinaryOperator, out: &mut Vec<Instr>) -> Result<(), AllocError>
-    ensures { OnOk result (out.new.items ≡ out.old.items ++ word_code operator) }
-{
-    out.push(Instr::Binary(ValType::I32, operator))?;
-    Ok(())
 }
 
 /// Appends the code of a comparison, or of the lesser or the greater of two.
-fn push_order(
+fn push_wide_order(
     op: u16,
     left: IntTy,
     right: IntTy,
@@ -128,40 +201,35 @@ fn push_order(
     scratch: u32,
     out: &mut Vec<Instr>,
 ) -> Result<(), AllocError>
-    requires from_narrow { IsNarrow left }
-    requires to_narrow { IsNarrow to }
+    requires from_stored { IsStored left }
+    requires to_stored { IsStored to }
     requires scratch { scratch ≤ 4294967287 }
-    ensures { OnOk result (out.new.items ≡ out.old.items ++ code_of_order op left right to scratch) }
+    ensures { OnOk result (out.new.items ≡ out.old.items ++ wide_code_of_order op left right to scratch) }
 {
     match op {
-        EQUAL => push_comparison(Comparison::Eq, Comparison::Eq, left, right, scratch, out),
-        NOT_EQUAL => push_comparison(Comparison::Ne, Comparison::Ne, left, right, scratch, out),
-        LESS => push_comparison(Comparison::LtS, Comparison::LtU, left, right, scratch, out),
-        LESS_OR_EQUAL => push_comparison(
-            Comparison::LeS,
-            Comparison::LeU,
+        EQUAL => push_wide_comparison(COMPARED_EQUAL, left, right, to, scratch, out),
+        NOT_EQUAL => push_wide_comparison(COMPARED_NOT_EQUAL, left, right, to, scratch, out),
+        LESS => push_wide_comparison(COMPARED_LESS, left, right, to, scratch, out),
+        LESS_OR_EQUAL => push_wide_comparison(
+            COMPARED_LESS_OR_EQUAL,
             left,
             right,
+            to,
             scratch,
             out,
         ),
-        GREATER => push_comparison(Comparison::GtS, Comparison::GtU, left, right, scratch, out),
-        GREATER_OR_EQUAL => push_comparison(
-            Comparison::GeS,
-            Comparison::GeU,
-            left,
-            right,
-            scratch,
-            out,
-        ),
-        MIN => push_choice(Comparison::LtS, Comparison::LtU, left, right, scratch, out),
-        MAX => push_choice(Comparison::GtS, Comparison::GtU, left, right, scratch, out),
-        _ => push_shares(op, left, right, to, scratch, out),
+        GREATER => push_wide_comparison(COMPARED_GREATER, left, right, to, scratch, out),
+        GREATER_OR_EQUAL => {
+            push_wide_comparison(COMPARED_GREATER_OR_EQUAL, left, right, to, scratch, out)
+        }
+        MIN => push_wide_choice(COMPARED_LESS, left, right, to, scratch, out),
+        MAX => push_wide_choice(COMPARED_GREATER, left, right, to, scratch, out),
+        _ => push_wide_bits(op, left, right, to, scratch, out),
     }
 }
 
-/// Appends the code of a shift, a quotient or a rest.
-fn push_shares(
+/// Appends the code of an operator on bits, or of a shift.
+fn push_wide_bits(
     op: u16,
     left: IntTy,
     right: IntTy,
@@ -169,354 +237,90 @@ fn push_shares(
     scratch: u32,
     out: &mut Vec<Instr>,
 ) -> Result<(), AllocError>
-    requires from_narrow { IsNarrow left }
-    requires to_narrow { IsNarrow to }
+    requires from_stored { IsStored left }
+    requires to_stored { IsStored to }
     requires scratch { scratch ≤ 4294967287 }
-    ensures { OnOk result (out.new.items ≡ out.old.items ++ code_of_shares op left right to scratch) }
+    ensures { OnOk result (out.new.items ≡ out.old.items ++ wide_code_of_bits op left right to scratch) }
 {
     match op {
-        SHL => push_left(right, to, scratch, out),
-        SHR => push_right(left, right, to, scratch, out),
-        DIV => push_quotient(left, right, to, scratch, out),
-        REM => push_rest(left, right, scratch, out),
-        DIV_TRUNC => push_quotient(left, right, to, scratch, out),
-        REM_TRUNC => push_rest(left, right, scratch, out),
-        MOD => push_modulo(left, right, scratch, out),
-        DIV_FLOOR => push_floor(left, right, to, scratch, out),
-        _ => push_of_one(op, left, to, scratch, out),
+        BIT_AND => push_wide_word(BinaryOperator::And, left, right, to, scratch, out),
+        BIT_OR => push_wide_word(BinaryOperator::Or, left, right, to, scratch, out),
+        BIT_XOR => push_wide_word(BinaryOperator::Xor, left, right, to, scratch, out),
+        SHL => push_wide_left(left, right, to, scratch, out),
+        SHR => push_wide_right(left, right, to, scratch, out),
+        _ => push_wide_shares(op, left, right, to, scratch, out),
+    }
+}
+
+/// Appends the code of a quotient or a rest.
+fn push_wide_shares(
+    op: u16,
+    left: IntTy,
+    right: IntTy,
+    to: IntTy,
+    scratch: u32,
+    out: &mut Vec<Instr>,
+) -> Result<(), AllocError>
+    requires from_stored { IsStored left }
+    requires to_stored { IsStored to }
+    requires scratch { scratch ≤ 4294967287 }
+    ensures { OnOk result (out.new.items ≡ out.old.items ++ wide_code_of_shares op left right to scratch) }
+{
+    match op {
+        DIV => push_wide_share(BinaryOperator::DivU, left, right, to, scratch, out),
+        REM => push_wide_share(BinaryOperator::RemU, left, right, to, scratch, out),
+        DIV_TRUNC => push_wide_share(BinaryOperator::DivU, left, right, to, scratch, out),
+        REM_TRUNC => push_wide_share(BinaryOperator::RemU, left, right, to, scratch, out),
+        DIV_FLOOR => push_wide_share(BinaryOperator::DivU, left, right, to, scratch, out),
+        MOD => push_wide_share(BinaryOperator::RemU, left, right, to, scratch, out),
+        _ => push_wide_of_one(op, left, to, scratch, out),
     }
 }
 
 /// Appends the code of an operator of one operand.
-fn push_of_one(
+fn push_wide_of_one(
     op: u16,
     from: IntTy,
     to: IntTy,
     scratch: u32,
     out: &mut Vec<Instr>,
 ) -> Result<(), AllocError>
-    requires from_narrow { IsNarrow from }
-    requires to_narrow { IsNarrow to }
+    requires from_stored { IsStored from }
+    requires to_stored { IsStored to }
     requires scratch { scratch ≤ 4294967287 }
-    ensures { OnOk result (out.new.items ≡ out.old.items ++ code_of_one op from to scratch) }
+    ensures { OnOk result (out.new.items ≡ out.old.items ++ wide_code_of_one op from to scratch) }
 {
     match op {
-        NEG => push_opposite(from, to, scratch, out),
-        BIT_NOT => push_turned(to, out),
-        NEG_WRAP => push_negated_wrapped(to, out),
-        NOT => push_is_zero(out),
-        ABS => push_distance(from, scratch, out),
-        INT_CAST => push_cast(from, to, scratch, out),
-        TRUNCATE => push_truncated(from, to, out),
-        BIT_CAST => push_truncated(from, to, out),
-        _ => push_counts(op, from, scratch, out),
+        NEG => push_wide_opposite(from, to, scratch, out),
+        BIT_NOT => push_wide_minus_one(BinaryOperator::Xor, from, to, out),
+        NEG_WRAP => push_wide_minus_one(BinaryOperator::Mul, from, to, out),
+        AS => push_wide_same(from, to, out),
+        INT_FROM_BOOL => push_wide_same(from, to, out),
+        TRUNCATE => push_wide_truncated(from, to, out),
+        BIT_CAST => push_wide_truncated(from, to, out),
+        _ => push_wide_counts(op, from, to, scratch, out),
     }
 }
 
-/// Appends the code of a count of bits.
-fn push_counts(op: u16, from: IntTy, scratch: u32, out: &mut Vec<Instr>) -> Result<(), AllocError>
-    ensures { OnOk result (out.new.items ≡ out.old.items ++ code_of_counts op from scratch) }
+/// Appends the code of a cast that may panic, of how far a number is from 0, or of a count of bits.
+fn push_wide_counts(
+    op: u16,
+    from: IntTy,
+    to: IntTy,
+    scratch: u32,
+    out: &mut Vec<Instr>,
+) -> Result<(), AllocError>
+    requires from_stored { IsStored from }
+    requires to_stored { IsStored to }
+    requires scratch { scratch ≤ 4294967287 }
+    ensures { OnOk result (out.new.items ≡ out.old.items ++ wide_code_of_counts op from to scratch) }
 {
     match op {
-        CLZ => push_leading(from, out),
-        CTZ => push_trailing(from, scratch, out),
-        POP_COUNT => push_ones(from, out),
+        INT_CAST => push_wide_cast(from, to, scratch, out),
+        ABS => push_wide_distance(from, to, scratch, out),
+        CLZ => push_wide_leading(from, to, out),
+        CTZ => push_wide_trailing(from, to, scratch, out),
+        POP_COUNT => push_wide_ones(from, to, out),
         _ => Ok(()),
     }
-}
-
-/// Appends the test whether an operand is 0.
-fn push_is_zero(out: &mut Vec<Instr>) -> Result<(), AllocError>
-    ensures { OnOk result (out.new.items ≡ out.old.items ++ not_code) }
-{
-    out.push(Instr::IsZero(ValType::I32))?;
-    Ok(())
-}
-
-/// Appends the code of `+`.
-fn push_sum(
-    left: IntTy,
-    right: IntTy,
-    to: IntTy,
-    scratch: u32,
-    out: &mut Vec<Instr>,
-) -> Result<(), AllocError>
-    requires narrow { IsNarrow to }
-    requires scratch { scratch ≤ 4294967287 }
-    ensures { OnOk result (out.new.items ≡ out.old.items ++ sum_code left right to scratch) }
-{
-    if is_u32(left) && is_u32(right) && is_u32(to) {
-        push_add(scratch, out)
-    } else {
-        push_exact(BinaryOperator::Add, left, right, to, scratch, out)
-    }
-}
-
-/// Appends the code of `-`.
-fn push_difference(
-    left: IntTy,
-    right: IntTy,
-    to: IntTy,
-    scratch: u32,
-    out: &mut Vec<Instr>,
-) -> Result<(), AllocError>
-    requires narrow { IsNarrow to }
-    requires scratch { scratch ≤ 4294967287 }
-    ensures { OnOk result (out.new.items ≡ out.old.items ++ difference_code left right to scratch) }
-{
-    if is_u32(left) && is_u32(right) && is_u32(to) {
-        push_sub(scratch, out)
-    } else {
-        push_exact(BinaryOperator::Sub, left, right, to, scratch, out)
-    }
-}
-
-/// Whether the type is `u32`.
-fn is_u32(ty: IntTy) -> bool
-    ensures { result ≡ is_u32 ty }
-{
-    match ty {
-        IntTy::Sized {
-            signed: false,
-            bits,
-        } => bits == 32,
-        _ => false,
-    }
-}
-
-/// Appends the code of an operator whose result is exact in 64 bits.
-pub fn push_exact(
-    operator: BinaryOperator,
-    left: IntTy,
-    right: IntTy,
-    to: IntTy,
-    scratch: u32,
-    out: &mut Vec<Instr>,
-) -> Result<(), AllocError>
-    requires narrow { IsNarrow to }
-    requires scratch { scratch ≤ 4294967287 }
-    ensures { OnOk result (out.new.items ≡ out.old.items ++ exact_code operator left right to scratch) }
-{
-    push_extended(left, right, scratch, out)?;
-    out.push(Instr::Binary(ValType::I64, operator))?;
-    out.push(Instr::LocalSet(scratch + 4))?;
-    out.push(Instr::LocalGet(scratch + 4))?;
-    push_in_range(to, out)?;
-    out.push(Instr::LocalGet(scratch + 4))?;
-    out.push(Instr::Convert(Conversion::Wrap))?;
-    Ok(())
-}
-
-/// Appends code that takes both operands to 64 bits.
-pub fn push_extended(
-    left: IntTy,
-    right: IntTy,
-    scratch: u32,
-    out: &mut Vec<Instr>,
-) -> Result<(), AllocError>
-    requires { scratch ≤ 4294967287 }
-    ensures { OnOk result (out.new.items ≡ out.old.items ++ extended left right scratch) }
-{
-    out.push(Instr::Convert(extension(right)))?;
-    out.push(Instr::LocalSet(scratch + 4))?;
-    out.push(Instr::Convert(extension(left)))?;
-    out.push(Instr::LocalGet(scratch + 4))?;
-    Ok(())
-}
-
-/// How a value of the type goes from 32 to 64 bits.
-pub fn extension(ty: IntTy) -> Conversion
-    ensures { result ≡ extension ty }
-{
-    match ty {
-        IntTy::Sized { signed: true, .. } => Conversion::ExtendS,
-        _ => Conversion::ExtendU,
-    }
-}
-
-/// Appends code that panics where its operand of 64 bits isn't a value of the type.
-pub fn push_in_range(to: IntTy, out: &mut Vec<Instr>) -> Result<(), AllocError>
-    requires narrow { IsNarrow to }
-    ensures { OnOk result (out.new.items ≡ out.old.items ++ in_range to) }
-{
-    push_above_least(to, out)?;
-    out.push(Instr::I64Const(span(to)))?;
-    out.push(Instr::Compare(ValType::I64, Comparison::GtU))?;
-    push_if_panics(INTEGER_OVERFLOW, out)
-}
-
-/// Appends code that takes the least value of a signed type away.
-fn push_above_least(to: IntTy, out: &mut Vec<Instr>) -> Result<(), AllocError>
-    requires narrow { IsNarrow to }
-    ensures { OnOk result (out.new.items ≡ out.old.items ++ above_least to) }
-{
-    if let IntTy::Sized { signed: true, .. } = to {
-        out.push(Instr::I64Const(half(to)))?;
-        out.push(Instr::Binary(ValType::I64, BinaryOperator::Add))?;
-    }
-    Ok(())
-}
-
-/// How far the greatest value of the type lies above the least.
-fn span(ty: IntTy) -> i64
-    requires narrow { IsNarrow ty }
-    ensures { result ≡ pos (2 ^ width ty - 1) }
-{
-    match ty {
-        IntTy::Sized { bits, .. } => (1i64 << bits) - 1,
-        IntTy::Comptime => 0,
-    }
-}
-
-/// How far the least value of a signed type lies below 0.
-fn half(ty: IntTy) -> i64
-    requires narrow { IsNarrow ty }
-    ensures { result ≡ pos (2 ^ width ty / 2) }
-{
-    match ty {
-        IntTy::Sized { bits, .. } => (1i64 << bits) / 2,
-        IntTy::Comptime => 0,
-    }
-}
-
-/// Appends the code of an operator whose result wraps around.
-fn push_wrapped(operator: BinaryOperator, to: IntTy, out: &mut Vec<Instr>) -> Result<(), AllocError>
-    requires narrow { IsNarrow to }
-    ensures { OnOk result (out.new.items ≡ out.old.items ++ wrapped_code operator to) }
-{
-    out.push(Instr::Binary(ValType::I32, operator))?;
-    push_fitted(to, out)
-}
-
-/// Appends code that leaves the value of the type with the lowest bits of its operand.
-pub fn push_fitted(to: IntTy, out: &mut Vec<Instr>) -> Result<(), AllocError>
-    requires narrow { IsNarrow to }
-    ensures { OnOk result (out.new.items ≡ out.old.items ++ fitted to) }
-{
-    match to {
-        IntTy::Sized { signed, bits } if bits < 32 => push_narrowed(signed, bits, out),
-        _ => Ok(()),
-    }
-}
-
-/// Appends code that leaves the value of a type of so many bits with the lowest bits of its operand.
-pub fn push_narrowed(signed: bool, bits: u8, out: &mut Vec<Instr>) -> Result<(), AllocError>
-    requires { bits ≤ 31 }
-    ensures { OnOk result (out.new.items ≡ out.old.items ++ narrowed (Sized signed bits)) }
-{
-    if signed {
-        push_signed(half_power(bits), mask(bits), out)
-    } else {
-        push_masked(mask(bits), out)
-    }
-}
-
-/// Appends code that goes up by half of a power of two, takes the lowest bits, and goes down again.
-fn push_signed(half: i32, mask: i32, out: &mut Vec<Instr>) -> Result<(), AllocError>
-    ensures { OnOk result (out.new.items ≡ out.old.items ++ lifted half mask) }
-{
-    push_moved(half, BinaryOperator::Add, out)?;
-    push_masked(mask, out)?;
-    push_moved(half, BinaryOperator::Sub, out)?;
-    Ok(())
-}
-
-/// Appends code that goes up or down by so much.
-fn push_moved(half: i32, operator: BinaryOperator, out: &mut Vec<Instr>) -> Result<(), AllocError>
-    ensures { OnOk result (out.new.items ≡ out.old.items ++ moved half operator) }
-{
-    out.push(Instr::I32Const(half))?;
-    out.push(Instr::Binary(ValType::I32, operator))?;
-    Ok(())
-}
-
-/// Appends code that takes the lowest bits.
-fn push_masked(mask: i32, out: &mut Vec<Instr>) -> Result<(), AllocError>
-    ensures { OnOk result (out.new.items ≡ out.old.items ++ masked mask) }
-{
-    out.push(Instr::I32Const(mask))?;
-    out.push(Instr::Binary(ValType::I32, BinaryOperator::And))?;
-    Ok(())
-}
-
-/// Half of a power of two.
-pub fn half_power(bits: u8) -> i32
-    requires { bits ≤ 31 }
-    ensures { result ≡ pos (2 ^ bits / 2) }
-{
-    ((1i64 << bits) / 2) as i32
-}
-
-/// So many bits that are 1.
-pub fn mask(bits: u8) -> i32
-    requires { bits ≤ 31 }
-    ensures { result ≡ pos (2 ^ bits - 1) }
-{
-    ((1i64 << bits) - 1) as i32
-}
-
-/// Appends the code of `+` on `u32`.
-fn push_add(scratch: u32, out: &mut Vec<Instr>) -> Result<(), AllocError>
-    requires { scratch ≤ 4294967287 }
-    ensures { OnOk result (out.new.items ≡ out.old.items ++ add_code scratch) }
-{
-    push_kept(scratch, out)?;
-    out.push(Instr::Binary(ValType::I32, BinaryOperator::Add))?;
-    out.push(Instr::LocalSet(scratch))?;
-    push_less(scratch, scratch + 1, out)?;
-    push_if_panics(INTEGER_OVERFLOW, out)?;
-    out.push(Instr::LocalGet(scratch))?;
-    Ok(())
-}
-
-/// Appends the code of `-` on `u32`.
-fn push_sub(scratch: u32, out: &mut Vec<Instr>) -> Result<(), AllocError>
-    requires { scratch ≤ 4294967287 }
-    ensures { OnOk result (out.new.items ≡ out.old.items ++ sub_code scratch) }
-{
-    push_kept(scratch, out)?;
-    out.push(Instr::Compare(ValType::I32, Comparison::LtU))?;
-    push_if_panics(INTEGER_OVERFLOW, out)?;
-    out.push(Instr::LocalGet(scratch + 1))?;
-    out.push(Instr::LocalGet(scratch))?;
-    out.push(Instr::Binary(ValType::I32, BinaryOperator::Sub))?;
-    Ok(())
-}
-
-/// Appends code that keeps both operands, and leaves them.
-fn push_kept(scratch: u32, out: &mut Vec<Instr>) -> Result<(), AllocError>
-    requires { scratch ≤ 4294967287 }
-    ensures { OnOk result (out.new.items ≡ out.old.items ++ kept scratch) }
-{
-    out.push(Instr::LocalSet(scratch))?;
-    out.push(Instr::LocalSet(scratch + 1))?;
-    out.push(Instr::LocalGet(scratch + 1))?;
-    out.push(Instr::LocalGet(scratch))?;
-    Ok(())
-}
-
-/// Appends code that compares a local with another one.
-fn push_less(local: u32, other: u32, out: &mut Vec<Instr>) -> Result<(), AllocError>
-    ensures { OnOk result (out.new.items ≡ out.old.items ++ less local other) }
-{
-    out.push(Instr::LocalGet(local))?;
-    out.push(Instr::LocalGet(other))?;
-    out.push(Instr::Compare(ValType::I32, Comparison::LtU))?;
-    Ok(())
-}
-
-/// Appends code that panics with this cause and no message where its operand isn't 0.
-pub fn push_if_panics(cause: u8, out: &mut Vec<Instr>) -> Result<(), AllocError>
-    ensures { OnOk result (out.new.items ≡ out.old.items ++ if_panics cause) }
-{
-    out.push(Instr::If(None))?;
-    out.push(Instr::I32Const(i32::from(cause)))?;
-    out.push(Instr::GlobalSet(0))?;
-    out.push(Instr::I32Const(0))?;
-    out.push(Instr::GlobalSet(1))?;
-    out.push(Instr::I32Const(0))?;
-    out.push(Instr::GlobalSet(2))?;
-    out.push(Instr::Unreachable)?;
-    out.push(Instr::End)?;
-    Ok(())
 }

@@ -1,4 +1,4 @@
-use Rattle.zw_safety.proofs.CheckedTypes.{add-checked, sub-checked, add_wrap-checked}
+use Rattle.zw_safety_narrow.proofs.CheckedTypes.{add-checked, sub-checked, add_wrap-checked}
 use Rattle.zw_safety.proofs.laws.checked_code_is_right.Goals as goal
 
 pub returns-clause-add : goal.returns-clause-add

@@ -1,0 +1,13 @@
+pub mod Code
+pub mod Checked
+pub mod NarrowCode
+pub mod CompareCode
+pub mod CastCode
+pub mod ShiftCode
+pub mod DivisionCode
+pub mod SaturatingCode
+pub mod FloorCode
+pub mod CountCode
+pub mod ExactCode
+pub mod OperatorCode
+pub mod Operators

@@ -1,0 +1,10 @@
+// What holds of the code itself.
+ghost use Rattle.std.specs.Prelude.{ℕ};
+ghost use Rattle.zw_num.specs.declared.int_ty.IntTy.{IntTy};
+ghost use Rattle.zw_safety_narrow.specs.OperatorCode.{operator_code};
+ghost use Rattle.zw_safety_narrow.specs.Operators.{IsServed, IsRightCode};
+
+/// The code of each operator that is served on types of at most 32 bits is right wherever it stands.
+pub fn narrow_code_is_right()
+    ensures { (op scratch : ℕ) (left right to : IntTy) → IsServed op left right to → IsRightCode op left right to scratch (operator_code op left right to scratch) }
+{}
