@@ -1,9 +1,8 @@
 -- The status blames the object that failed.
-use Rattle.std.proofs.Common.{◌≡◌, ◌⊎◌, ℕ, List, [], ◌∷◌, Option, Result, Ok, Err, sym, ◌∙◌, ap, inl, inr, arith, true, lit<}
+use Rattle.std.proofs.Common.{◌≡◌, ◌⊎◌, ℕ, List, [], ◌∷◌, Option, Result, Ok, Err, refl, sym, ◌∙◌, ap, subst, inl, inr, arith, Bool, true, false, lit<}
 use Rattle.zw_base.specs.Faults.{Counts}
-use Rattle.zw_base.specs.declared.files.Handed.{Handed}
 use Rattle.zw_drive.specs.Due.{IsBlamed}
-use Rattle.zw_drive.specs.Ends.{WritesTree, Reports, Says, code_of, tree_failed, out_failed}
+use Rattle.zw_drive.specs.Ends.{Reports, Says, code_of, tree_failed, out_failed}
 use Rattle.zw_drive.specs.Lines.{stop_line, tree_fault_line, out_fault_line}
 use Rattle.zw_drive.specs.declared.build.BuildErr.{BuildErr}
 use Rattle.zw_drive.specs.declared.build.BuildErr.TheVariants as build
@@ -36,21 +35,25 @@ pub no_fourth : (own status code : ℕ) → OneOf own status → (own ≡ code �
 no_fourth own status code one a b c e = elim one [ inl h ↦ a (sym h ∙ e) | inr o ↦ elim o [ inl h ↦ b (sym h ∙ e) | inr h ↦ c (sym h ∙ e) ] ]
 
 -- the tree
-pub tree_blamed : (faults_before faults_now : ℕ) (root : List ℕ) (old new : List Handed) (out_before out_after : Option (List ℕ)) (built : Result (Unit {0}) BuildErr) (before after : Option (List ℕ)) (status : Status) → WritesTree root old new out_before out_after built → Counts faults_before faults_now (tree_failed built) → Reports root built before after status → IsBlamed faults_before faults_now (code_of status) 7 (10 ∷ 11 ∷ [])
-tree_blamed f g root old new out_before out_after (Ok x) before after status w counts says = unblamed f g _ 7 counts (λ e. omega (arith, ap code_of says.own_status))
-tree_blamed f g root old new out_before out_after (Err (build.Stop stop)) before after status w counts says =
-    unblamed f g _ 7 counts (no_fourth 1 (code_of status) 7 (said_code statuses.Stopped (stop_line root stop) before after status says) (λ e. omega arith) (λ e. omega arith) (λ e. omega arith))
-tree_blamed f g root old new out_before out_after (Err build.TreeFault) before after status w counts says = blamed f g (code_of status) 7 counts (said_code statuses.TreeFault tree_fault_line before after status says)
-tree_blamed f g root old new out_before out_after (Err build.OutFault) before after status w counts says =
+pub tree_blamed : (faults_before faults_now : ℕ) (built : Result (Unit {0}) BuildErr) (before after : Option (List ℕ)) (status : Status) → Counts faults_before faults_now (tree_failed built) → Reports built before after status → IsBlamed faults_before faults_now (code_of status) 7 (10 ∷ 11 ∷ [])
+tree_blamed f g (Ok x) before after status counts says = unblamed f g _ 7 counts (λ e. omega (arith, ap code_of says.own_status))
+tree_blamed f g (Err (build.Stop stop path)) before after status counts says =
+    unblamed f g _ 7 counts (no_fourth 1 (code_of status) 7 (said_code statuses.Stopped (stop_line path stop) before after status says) (λ e. omega arith) (λ e. omega arith) (λ e. omega arith))
+tree_blamed f g (Err build.TreeFault) before after status counts says = blamed f g (code_of status) 7 counts (said_code statuses.TreeFault tree_fault_line before after status says)
+tree_blamed f g (Err build.OutFault) before after status counts says =
     unblamed f g _ 7 counts (no_fourth 9 (code_of status) 7 (said_code statuses.OutFault out_fault_line before after status says) (λ e. omega arith) (λ e. omega arith) (λ e. omega arith))
-tree_blamed f g root old new out_before out_after (Err build.Oom) before after status w counts says = unblamed f g _ 7 counts (λ e. omega (arith, ap code_of says.own_status))
+tree_blamed f g (Err build.Oom) before after status counts says = unblamed f g _ 7 counts (λ e. omega (arith, ap code_of says.own_status))
 
 -- the output
-pub out_blamed : (faults_before faults_now : ℕ) (root : List ℕ) (old new : List Handed) (out_before out_after : Option (List ℕ)) (built : Result (Unit {0}) BuildErr) (before after : Option (List ℕ)) (status : Status) → WritesTree root old new out_before out_after built → Counts faults_before faults_now (out_failed built) → Reports root built before after status → IsBlamed faults_before faults_now (code_of status) 9 (10 ∷ 11 ∷ [])
-out_blamed f g root old new out_before out_after (Ok x) before after status w counts says = unblamed f g _ 9 counts (λ e. omega (arith, ap code_of says.own_status))
-out_blamed f g root old new out_before out_after (Err (build.Stop stop)) before after status w counts says =
-    unblamed f g _ 9 counts (no_fourth 1 (code_of status) 9 (said_code statuses.Stopped (stop_line root stop) before after status says) (λ e. omega arith) (λ e. omega arith) (λ e. omega arith))
-out_blamed f g root old new out_before out_after (Err build.TreeFault) before after status w counts says =
+pub out_blamed : (faults_before faults_now : ℕ) (built : Result (Unit {0}) BuildErr) (before after : Option (List ℕ)) (status : Status) → Counts faults_before faults_now (out_failed built) → Reports built before after status → IsBlamed faults_before faults_now (code_of status) 9 (10 ∷ 11 ∷ [])
+out_blamed f g (Ok x) before after status counts says = unblamed f g _ 9 counts (λ e. omega (arith, ap code_of says.own_status))
+out_blamed f g (Err (build.Stop stop path)) before after status counts says =
+    unblamed f g _ 9 counts (no_fourth 1 (code_of status) 9 (said_code statuses.Stopped (stop_line path stop) before after status says) (λ e. omega arith) (λ e. omega arith) (λ e. omega arith))
+out_blamed f g (Err build.TreeFault) before after status counts says =
     unblamed f g _ 9 counts (no_fourth 7 (code_of status) 9 (said_code statuses.TreeFault tree_fault_line before after status says) (λ e. omega arith) (λ e. omega arith) (λ e. omega arith))
-out_blamed f g root old new out_before out_after (Err build.OutFault) before after status w counts says = blamed f g (code_of status) 9 counts (said_code statuses.OutFault out_fault_line before after status says)
-out_blamed f g root old new out_before out_after (Err build.Oom) before after status w counts says = unblamed f g _ 9 counts (λ e. omega (arith, ap code_of says.own_status))
+out_blamed f g (Err build.OutFault) before after status counts says = blamed f g (code_of status) 9 counts (said_code statuses.OutFault out_fault_line before after status says)
+out_blamed f g (Err build.Oom) before after status counts says = unblamed f g _ 9 counts (λ e. omega (arith, ap code_of says.own_status))
+
+-- the output that nothing was written to
+pub out_unwritten : (faults : ℕ) (ended : Result (Unit {0}) BuildErr) (before after : Option (List ℕ)) (status : Status) → out_failed ended ≡ false → Reports ended before after status → IsBlamed faults faults (code_of status) 9 (10 ∷ 11 ∷ [])
+out_unwritten f ended before after status never says = out_blamed f f ended before after status (subst (λ (b : Bool). Counts f f b) (sym never) refl) says

@@ -1,109 +1,123 @@
--- Building a tree ends as its parts end.
-use Rattle.std.proofs.Common.{◌≡◌, ◌⊎◌, ℕ, ◌≤◌, Bool, true, List, [], ◌∷◌, Option, Some, None, Result, Ok, Err, refl, sym, ◌∙◌, subst, inl, inr, nat_eq, codes, MatchBool, lit≤, length}
+-- The commands on a tree of files end as gathering it, and then as the command on the root's text.
+use Rattle.std.proofs.Common.{◌≡◌, ◌⊎◌, ℕ, ◌≤◌, List, [], ◌++◌, Option, Some, None, Result, Ok, Err, refl, sym, ◌∙◌, ap, subst, inl, inr, slice_index_or, length}
 use Rattle.std.proofs.lemmas.List.{append-nil}
-use Rattle.std.specs.List.{ends_with}
 use Rattle.std.specs.Io.KnownBytes.{Appends}
-use Rattle.zw_base.specs.declared.files.Answer.{Answer}
-use Rattle.zw_base.specs.declared.files.Answer.TheVariants.{Bytes}
 use Rattle.zw_base.specs.declared.files.Handed.{Handed}
 use Rattle.zw_base.specs.declared.stop.Stop.{Stop}
-use Rattle.zw_drive.specs.Due.{IsRootDue, IsBuildDue, IsStop}
-use Rattle.zw_form.specs.Form.{IsStopOf}
-use Rattle.zw_form.specs.Members.{Member, IsFirstStop, IsMemberStop, IsWeightStop}
-use Rattle.zw_form.specs.declared.source.Declaration.{Declaration}
-use Rattle.zw_parse.specs.Syntax.{IsSyntaxStop, wrong, nested}
-use Rattle.zw_token.specs.ErrorNumbers.{number_of_error}
-use Rattle.zw_token.specs.declared.token.TextError.{TextError}
-use Rattle.zw_token.specs.declared.token.Token.{Token}
-use Rattle.zw_token.specs.declared.token.TextError.TheVariants.{BadByte, BadToken, BadLiteral, NotInProfile}
-use Rattle.zw_drive.specs.Ends.{Adds, LoadEnds, WritesText, WritesTree}
-use Rattle.zw_drive.specs.Lines.{IsNamed, stop_line}
+use Rattle.zw_drive.specs.Due.{IsBuildDue, IsCheckDue, IsTreeDue, TreeDue}
+use Rattle.zw_drive.specs.Ends.{ChecksTree, HasNamedStop, IsInRoot, TextChecks, TextEnds, TreeEnds, WritesText, WritesTree, ungathered}
+use Rattle.zw_drive.specs.Lines.{stop_line}
 use Rattle.zw_drive.specs.Meaning.{Builds}
-use Rattle.zw_drive.specs.Stops.{at_start}
-use Rattle.zw_drive.specs.declared.build.TheConstants.{FILE_LIMIT}
 use Rattle.zw_drive.specs.declared.build.BuildErr.{BuildErr}
 use Rattle.zw_drive.specs.declared.build.BuildErr.TheVariants as build
-use Rattle.zw_drive.specs.declared.stops.TheConstants.{IMPORT_PATH}
+use Rattle.zw_files.specs.Discovery.{Discovery, Found, Located, root_text, refused, whole, stopped}
+use Rattle.zw_files.specs.Gathering.{Gathers, IsBegun, begun, past}
+use Rattle.zw_files.specs.declared.err.GatherErr.{GatherErr}
+use Rattle.zw_files.specs.declared.err.GatherErr.TheVariants as gather
+use Rattle.zw_files.specs.declared.file_set.FileSet.{FileSet}
+use Rattle.zw_files.specs.declared.stops.TheConstants.{FILE_LIMIT}
+use Rattle.zw_files.proofs.RootLemmas.{root-short}
+use Rattle.zw_form.specs.Form.{IsStopOf}
+use Rattle.zw_drive.proofs.NamedLemmas.{discovery_named, stop_named}
 
 -- known bytes that stay grow by nothing
 pub Appends-none : (taken : Option (List ℕ)) → Appends taken taken []
 Appends-none None = tt
 Appends-none (Some xs) = sym (append-nil xs)
 
--- the root ends with `.zig`
-abbrev pub IsZig : List ℕ → Type 0
-IsZig root = ends_with nat_eq root (codes ".zig") ≡ true
+-- the files of a whole discovery are its first ones
+whole_begun : (root : List ℕ) (files : List Handed) (found : Found) (end : Result Found Located) → Discovery root files end → end ≡ Ok found → IsBegun root files
+whole_begun root files found end (refused no_zig) e = absurd (cc)
+whole_begun root files found end (whole zig leads none_left) e = begun zig (past leads)
+whole_begun root files found end (stopped zig leads turn) e = absurd (cc)
 
--- what is due for a root that may be loaded
-pub due_loaded : (root : List ℕ) (files : List Handed) (status : ℕ) (out line : List ℕ) → IsZig root → IsRootDue root files status out line → IsBuildDue root files status out line
-due_loaded root files status out line zig due =
-    subst (λ (b : Bool). MatchBool b (IsRootDue root files status out line) ((files ≡ []) × IsStop root (at_start IMPORT_PATH) status out line)) (sym zig) due
+-- ---- all files were found, and the root's text is one that a function answers
+module _ (root : List ℕ) (old new : List Handed) (set : FileSet) (text : List ℕ) (g : Gathers root old new (Ok set)) (is : text ≡ slice_index_or set.texts 0 []) where
+  abbrev found : Found
+  found = g.ends.0
 
--- the pair that the load of the root gives
-abbrev pub pair_of : List ℕ → Answer → List Handed
-pair_of root answer = record { path = root; answer = answer } ∷ []
+  text_is : text ≡ root_text found
+  text_is = is ∙ ap (λ texts. slice_index_or texts 0 []) g.ends.2.texts
 
--- a module of the text is due
-pub due_module : (root text out : List ℕ) → IsZig root → length text ≤ FILE_LIMIT → Builds text out → IsBuildDue root (pair_of root (Bytes text)) 0 out []
-due_module root text out zig fits builds =
-    due_loaded root (pair_of root (Bytes text)) 0 out [] zig (Bytes text, refl, record { fits = fits; due = inl (builds, record { status_is = refl; line_is = refl }) })
+  pub text_fits : length text ≤ FILE_LIMIT
+  text_fits = subst (λ (t : List ℕ). length t ≤ FILE_LIMIT) (sym text_is) (root-short root g.files (Ok found) found g.ends.1 refl)
 
--- the stop of a text is due
-pub due_stopped : (root text : List ℕ) (stop : Stop) → IsZig root → length text ≤ FILE_LIMIT → IsStopOf text stop → IsBuildDue root (pair_of root (Bytes text)) 1 [] (stop_line root stop)
-due_stopped root text stop zig fits stops =
-    due_loaded root (pair_of root (Bytes text)) 1 [] (stop_line root stop) zig (Bytes text, refl, record { fits = fits; due = inr (stop, stops, record { status_is = refl; out_is = refl; line_is = refl }) })
+  -- what is due for the text is due for the tree
+  whole_due : (due : TreeDue) (status : ℕ) (out line : List ℕ) → due root text status out line → IsTreeDue due root g.files status out line
+  whole_due due status out line h =
+      record { end = Ok found; discovery = g.ends.1; end_due = subst (λ (t : List ℕ). due root t status out line) text_is h }
 
-error_named : (error : TextError) → (1 ≤ number_of_error error) × (number_of_error error ≤ 36)
-error_named BadByte = (lit≤ tt, lit≤ tt)
-error_named BadToken = (lit≤ tt, lit≤ tt)
-error_named BadLiteral = (lit≤ tt, lit≤ tt)
-error_named NotInProfile = (lit≤ tt, lit≤ tt)
+  module_due : (out : List ℕ) → Builds text out → IsTreeDue IsBuildDue root g.files 0 out []
+  module_due out builds = whole_due IsBuildDue 0 out [] (inl (builds, record { status_is = refl; line_is = refl }))
 
--- error 6 and limit 3
-syntax_named : (text : List ℕ) (tokens : List Token) (stop : Stop) → IsSyntaxStop 0 text tokens stop → IsNamed stop.kind
-syntax_named text tokens stop (wrong number file flat is) = subst (λ (s : Stop). IsNamed s.kind) (sym is) (lit≤ tt, lit≤ tt)
-syntax_named text tokens stop (nested number file is) = subst (λ (s : Stop). IsNamed s.kind) (sym is) (lit≤ tt, lit≤ tt)
+  built_stop : (stop : Stop) (path : List ℕ) → path ≡ root → IsStopOf text stop → IsTreeDue IsBuildDue root g.files 1 [] (stop_line path stop)
+  built_stop stop path there stops =
+      whole_due IsBuildDue 1 [] (stop_line path stop) (inr (stop, stops, record { status_is = refl; out_is = refl; line_is = ap (λ (p : List ℕ). stop_line p stop) there }))
 
--- error 36 and limit 5
-member_named : (functions : List Declaration) (m : Member) (stop : Stop) → IsMemberStop functions m stop → IsNamed stop.kind
-member_named functions m stop (inl unkept) = subst (λ (s : Stop). IsNamed s.kind) (sym unkept.1) (lit≤ tt, lit≤ tt)
-member_named functions m stop (inr past) = subst (λ (s : Stop). IsNamed s.kind) (sym past.1.told) (lit≤ tt, lit≤ tt)
+  checked_stop : (stop : Stop) (path : List ℕ) → path ≡ root → IsStopOf text stop → IsTreeDue IsCheckDue root g.files 1 [] (stop_line path stop)
+  checked_stop stop path there stops =
+      whole_due IsCheckDue 1 [] (stop_line path stop) (inr (stop, stops, record { status_is = refl; out_is = refl; line_is = ap (λ (p : List ℕ). stop_line p stop) there }))
 
--- these, and limit 11
-members_named : (members : List Member) (stop : Stop) → IsFirstStop members stop ⊎ IsWeightStop members stop → IsNamed stop.kind
-members_named members stop (inl first) = member_named _ first.member stop first.stops
-members_named members stop (inr weight) = subst (λ (s : Stop). IsNamed s.kind) (sym weight.told) (lit≤ tt, lit≤ tt)
+  build_ends : (out : List ℕ) (r : Result (Unit {0}) BuildErr) → TextEnds root text out r → TreeEnds IsBuildDue root g.files out r
+  build_ends out (Ok x) h = module_due out h
+  build_ends out (Err (build.Stop stop path)) h = (h.0, stop_named text stop h.2, built_stop stop path h.1 h.2)
+  build_ends out (Err build.TreeFault) h = absurd h
+  build_ends out (Err build.OutFault) h = (h.0, module_due h.0 h.1, h.2)
+  build_ends out (Err build.Oom) (inl h) = inl (h, whole_begun root g.files found (Ok found) g.ends.1 refl)
+  build_ends out (Err build.Oom) (inr h) = inr (h.0, module_due h.0 h.1, h.2)
 
--- the stop of a text has a name
-stop_named : (text : List ℕ) (stop : Stop) → IsStopOf text stop → IsNamed stop.kind
-stop_named text stop (inl (at, error, stops, is)) = subst (λ (s : Stop). IsNamed s.kind) (sym is) (error_named error)
-stop_named text stop (inr (inl a)) = syntax_named text a.tokens stop a.stops
-stop_named text stop (inr (inr a)) = members_named _ stop a.stops
+  pub builds_text : (before after : Option (List ℕ)) (r : Result (Unit {0}) BuildErr) → WritesText root text before after r → WritesTree IsBuildDue root old new before after r
+  builds_text before after r w = record { files = g.files; out = w.0; loads = g.loads; writes = w.1; ends = build_ends w.0 r w.2 }
 
--- the text of a root was built
-pub writes_text : (root : List ℕ) (old new : List Handed) (before after : Option (List ℕ)) (text : List ℕ) (result : Result (Unit {0}) BuildErr) → IsZig root → Adds old new root (Bytes text) × (length text ≤ FILE_LIMIT) → WritesText text before after result → WritesTree root old new before after result
-writes_text root old new before after text (Ok x) zig adds w =
-    record { files = pair_of root (Bytes text); out = w.0; loads = adds.0; writes = w.1; ends = due_module root text w.0 zig adds.1 w.2 }
-writes_text root old new before after text (Err (build.Stop stop)) zig adds w =
-    record { files = pair_of root (Bytes text); out = w.0; loads = adds.0; writes = w.1; ends = (w.2.0, stop_named text stop w.2.1, due_stopped root text stop zig adds.1 w.2.1) }
-writes_text root old new before after text (Err build.TreeFault) zig adds w = absurd w.2
-writes_text root old new before after text (Err build.OutFault) zig adds w =
-    record { files = pair_of root (Bytes text); out = w.0; loads = adds.0; writes = w.1; ends = (w.2.0, due_module root text w.2.0 zig adds.1 w.2.1, w.2.2) }
-writes_text root old new before after text (Err build.Oom) zig adds w =
-    record {
-      files = pair_of root (Bytes text);
-      out = w.0;
-      loads = adds.0;
-      writes = w.1;
-      ends = elim w.2 [ inl e ↦ inl e | inr h ↦ inr (h.0, due_module root text h.0 zig adds.1 h.1, h.2) ];
-    }
+  check_ends : (r : Result (Unit {0}) BuildErr) → TextChecks root text r → TreeEnds IsCheckDue root g.files [] r
+  check_ends (Ok x) h = whole_due IsCheckDue 0 [] [] (inl (h, record { status_is = refl; out_is = refl; line_is = refl }))
+  check_ends (Err (build.Stop stop path)) h = (refl, stop_named text stop h.1, checked_stop stop path h.0 h.1)
+  check_ends (Err build.TreeFault) h = absurd h
+  check_ends (Err build.OutFault) h = absurd h
+  check_ends (Err build.Oom) h = inl (refl, whole_begun root g.files found (Ok found) g.ends.1 refl)
 
--- the load of a root gave no text
-pub writes_nothing : (root : List ℕ) (old new : List Handed) (taken : Option (List ℕ)) (e : BuildErr) → IsZig root → LoadEnds root old new (Err e) → WritesTree root old new taken taken (Err e)
-writes_nothing root old new taken (build.Stop stop) zig h =
-    record { files = pair_of root h.0; out = []; loads = h.1; writes = Appends-none taken; ends = (refl, h.2, due_loaded root (pair_of root h.0) 1 [] (stop_line root stop) zig (h.0, refl, h.3)) }
-writes_nothing root old new taken build.TreeFault zig h =
-    record { files = []; out = []; loads = h ∙ sym (append-nil old); writes = Appends-none taken; ends = (refl, refl, zig) }
-writes_nothing root old new taken build.OutFault zig h = absurd h
-writes_nothing root old new taken build.Oom zig h =
-    record { files = []; out = []; loads = h ∙ sym (append-nil old); writes = Appends-none taken; ends = inl refl }
+  pub checks_text : (r : Result (Unit {0}) BuildErr) → TextChecks root text r → ChecksTree root old new r
+  checks_text r h = λ taken. record { files = g.files; out = []; loads = g.loads; writes = Appends-none taken; ends = check_ends r h }
+
+-- ---- the files weren't found
+module _ (due : TreeDue) (root : List ℕ) (old new : List Handed) (taken : Option (List ℕ)) where
+  pub tree_ungathered : (e : GatherErr) → Gathers root old new (Err e) → WritesTree due root old new taken taken (Err (ungathered e))
+  tree_ungathered (gather.Stop stop path) g =
+      record {
+        files = g.files;
+        out = [];
+        loads = g.loads;
+        writes = Appends-none taken;
+        ends = (
+          refl,
+          discovery_named root g.files (Err (stop, path)) stop path g.ends refl,
+          record { end = Err (stop, path); discovery = g.ends; end_due = record { status_is = refl; out_is = refl; line_is = refl } },
+        );
+      }
+  tree_ungathered gather.Failed g = record { files = g.files; out = []; loads = g.loads; writes = Appends-none taken; ends = (refl, g.ends) }
+  tree_ungathered gather.Oom g = record { files = g.files; out = []; loads = g.loads; writes = Appends-none taken; ends = inl (refl, g.ends) }
+
+-- the stop of an end has a name
+named_end : (due : TreeDue) (root : List ℕ) (files : List Handed) (out : List ℕ) (r : Result (Unit {0}) BuildErr) → TreeEnds due root files out r → HasNamedStop r
+named_end due root files out (Ok x) h = tt
+named_end due root files out (Err (build.Stop stop path)) h = h.1
+named_end due root files out (Err build.TreeFault) h = tt
+named_end due root files out (Err build.OutFault) h = tt
+named_end due root files out (Err build.Oom) h = tt
+
+pub named_checked : (root : List ℕ) (before after : List Handed) (r : Result (Unit {0}) BuildErr) → ChecksTree root before after r → HasNamedStop r
+named_checked root before after r h = let w = h None in named_end IsCheckDue root w.files w.out r w.ends
+
+-- ---- the text of the root
+
+pub check_stop : (root text : List ℕ) (stop : Stop) (e : BuildErr) → IsStopOf text stop → IsInRoot root stop e → TextChecks root text (Err e)
+check_stop root text stop (build.Stop other path) stops h = (h.1, subst (λ (s : Stop). IsStopOf text s) (sym h.0) stops)
+check_stop root text stop build.TreeFault stops h = h
+check_stop root text stop build.OutFault stops h = h
+check_stop root text stop build.Oom stops h = tt
+
+pub build_stop : (root text : List ℕ) (taken : Option (List ℕ)) (stop : Stop) (e : BuildErr) → IsStopOf text stop → IsInRoot root stop e → WritesText root text taken taken (Err e)
+build_stop root text taken stop (build.Stop other path) stops h = ([], Appends-none taken, (refl, h.1, subst (λ (s : Stop). IsStopOf text s) (sym h.0) stops))
+build_stop root text taken stop build.TreeFault stops h = absurd h
+build_stop root text taken stop build.OutFault stops h = absurd h
+build_stop root text taken stop build.Oom stops h = ([], Appends-none taken, inl refl)

@@ -2,6 +2,7 @@ mod BlameLemmas
 mod BuildLemmas
 mod CompileLemmas
 mod DueLemmas
+mod NamedLemmas
 mod ServeLemmas
 mod TextLemmas
 mod ValidateDueLemmas

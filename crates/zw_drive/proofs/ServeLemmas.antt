@@ -4,24 +4,20 @@ use Rattle.std.proofs.lemmas.List.{append-nil}
 use Rattle.std.proofs.Math.Seq.{take-length}
 use Rattle.std.specs.Io.KnownBytes.{Appends}
 use Rattle.zw_base.specs.declared.files.Handed.{Handed}
-use Rattle.zw_drive.specs.Commands.{CommandLine, Build, command_of}
-use Rattle.zw_drive.specs.Due.{IsDue, IsLoadDue, IsBuildDue, IsCommandDue, IsFront, IsWhole, Ends, Serves}
+use Rattle.zw_drive.specs.Commands.{CommandLine, Build, Check, command_of}
+use Rattle.zw_drive.specs.Due.{AreFirst, IsDue, IsBeforeLoad, IsBuildDue, IsCheckDue, IsCommandDue, IsFront, IsTreeDue, IsWhole, Ends, Serves, TreeDue}
 use Rattle.zw_drive.specs.Ends.{WritesTree, Reports, Says, code_of}
 use Rattle.zw_drive.specs.Lines.{usage_line, stop_line, tree_fault_line, out_fault_line}
 use Rattle.zw_drive.specs.declared.build.BuildErr.{BuildErr}
 use Rattle.zw_drive.specs.declared.build.BuildErr.TheVariants as build
 use Rattle.zw_drive.specs.declared.status.Status.{Status}
 use Rattle.zw_drive.specs.declared.status.Status.TheVariants as statuses
+use Rattle.zw_files.specs.Gathering.{IsBegun, IsCutOff}
 use Rattle.zw_drive.proofs.BuildLemmas.{Appends-none}
 
 -- all of the bytes are a front of them
 pub front_all : (bytes : List ℕ) → IsFront bytes bytes
 front_all bytes = (length bytes, sym (take-length bytes))
-
--- what is due for a build is due for its words
-pub due_words : (words : List (List ℕ)) (root : List ℕ) (files : List Handed) (status : ℕ) (out line : List ℕ) → command_of words ≡ Some (Build root) → IsBuildDue root files status out line → IsDue words files status out line
-due_words words root files status out line is due =
-    subst (λ (o : Option CommandLine). IsCommandDue o files status out line) (sym is) due
 
 -- a line that was to end a command was said, or cut short
 pub said_ends : (words : List (List ℕ)) (files : List Handed) (out line said : List ℕ) (own status : Status) → IsWhole words files (code_of own) out line → ((said ≡ line) × (status ≡ own)) ⊎ (IsFront said line × ((status ≡ statuses.DiagFault) ⊎ (status ≡ statuses.OutOfMemory))) → Ends words files (code_of status) out said
@@ -45,61 +41,80 @@ serves_usage words loaded out before after status is says =
       ends = said_ends words [] [] usage_line says.said statuses.Usage status (inl due) says.ends;
     }
 
--- a tree was built, or not, and that was reported
-pub serves_build : (words : List (List ℕ)) (root : List ℕ) (old new : List Handed) (out_before out_after before after : Option (List ℕ)) (built : Result (Unit {0}) BuildErr) (status : Status) → WritesTree root old new out_before out_after built → command_of words ≡ Some (Build root) → Reports root built before after status → Serves words old new out_before out_after before after (code_of status)
-serves_build words root old new out_before out_after before after (Ok x) status w is says =
-    record {
-      files = w.files;
-      out = w.out;
-      line = [];
-      loads = w.loads;
-      writes = w.writes;
-      says = subst (λ (t : Option (List ℕ)). Appends before t []) (sym says.same) (Appends-none before);
-      ends = inl (inl (rw says.own_status (due_words words root w.files 0 w.out [] is w.ends)));
-    }
-serves_build words root old new out_before out_after before after (Err (build.Stop stop)) status w is says =
-    record {
-      files = w.files;
-      out = w.out;
-      line = says.said;
-      loads = w.loads;
-      writes = w.writes;
-      says = says.puts;
-      ends = said_ends words w.files w.out (stop_line root stop) says.said statuses.Stopped status
-          (inl (rw w.ends.0 (due_words words root w.files 1 [] (stop_line root stop) is w.ends.2))) says.ends;
-    }
-serves_build words root old new out_before out_after before after (Err build.TreeFault) status w is says =
-    record {
-      files = w.files;
-      out = w.out;
-      line = says.said;
-      loads = w.loads;
-      writes = w.writes;
-      says = says.puts;
-      ends = said_ends words w.files w.out tree_fault_line says.said statuses.TreeFault status
-          (inr (inl (record { asked = subst (λ (o : Option CommandLine). IsLoadDue o) (sym is) w.ends.2; files_are = w.ends.1; status_is = refl; out_is = w.ends.0; line_is = refl }))) says.ends;
-    }
-serves_build words root old new out_before out_after before after (Err build.OutFault) status w is says =
-    record {
-      files = w.files;
-      out = w.out;
-      line = says.said;
-      loads = w.loads;
-      writes = w.writes;
-      says = says.puts;
-      ends = said_ends words w.files w.out out_fault_line says.said statuses.OutFault status
-          (inr (inr (record { due = w.ends.0; is_due = due_words words root w.files 0 w.ends.0 [] is w.ends.1; status_is = refl; out_is = w.ends.2; line_is = refl }))) says.ends;
-    }
-serves_build words root old new out_before out_after before after (Err build.Oom) status w is says =
-    record {
-      files = w.files;
-      out = w.out;
-      line = [];
-      loads = w.loads;
-      writes = w.writes;
-      says = subst (λ (t : Option (List ℕ)). Appends before t []) (sym says.same) (Appends-none before);
-      ends = inr (record {
-        status_is = inr (ap code_of says.own_status);
-        written = elim w.ends [ inl e ↦ inl (e, refl) | inr h ↦ inr (0, h.0, [], inl (due_words words root w.files 0 h.0 [] is h.1), h.2, front_all []) ];
-      });
-    }
+-- A command on a tree ended, and that was reported. What is due for its tree is due for its words, where its tree fails theirs does, and
+-- first files of its tree are first ones for them.
+module _ (words : List (List ℕ)) (due : TreeDue) (root : List ℕ)
+    (is_due : (files : List Handed) (status : ℕ) (out line : List ℕ) → IsTreeDue due root files status out line → IsDue words files status out line)
+    (at_load : (files : List Handed) → IsCutOff root files → IsBeforeLoad (command_of words) files)
+    (first : (files : List Handed) → IsBegun root files → AreFirst (command_of words) files)
+    (old new : List Handed) (out_before out_after before after : Option (List ℕ)) where
+  pub serves_tree : (ended : Result (Unit {0}) BuildErr) (status : Status) → WritesTree due root old new out_before out_after ended → Reports ended before after status → Serves words old new out_before out_after before after (code_of status)
+  serves_tree (Ok x) status w says =
+      record {
+        files = w.files;
+        out = w.out;
+        line = [];
+        loads = w.loads;
+        writes = w.writes;
+        says = subst (λ (t : Option (List ℕ)). Appends before t []) (sym says.same) (Appends-none before);
+        ends = inl (inl (rw says.own_status (is_due w.files 0 w.out [] w.ends)));
+      }
+  serves_tree (Err (build.Stop stop path)) status w says =
+      record {
+        files = w.files;
+        out = w.out;
+        line = says.said;
+        loads = w.loads;
+        writes = w.writes;
+        says = says.puts;
+        ends = said_ends words w.files w.out (stop_line path stop) says.said statuses.Stopped status
+            (inl (rw w.ends.0 (is_due w.files 1 [] (stop_line path stop) w.ends.2))) says.ends;
+      }
+  serves_tree (Err build.TreeFault) status w says =
+      record {
+        files = w.files;
+        out = w.out;
+        line = says.said;
+        loads = w.loads;
+        writes = w.writes;
+        says = says.puts;
+        ends = said_ends words w.files w.out tree_fault_line says.said statuses.TreeFault status
+            (inr (inl (record { at_load = at_load w.files w.ends.1; status_is = refl; out_is = w.ends.0; line_is = refl }))) says.ends;
+      }
+  serves_tree (Err build.OutFault) status w says =
+      record {
+        files = w.files;
+        out = w.out;
+        line = says.said;
+        loads = w.loads;
+        writes = w.writes;
+        says = says.puts;
+        ends = said_ends words w.files w.out out_fault_line says.said statuses.OutFault status
+            (inr (inr (record { due = w.ends.0; is_due = is_due w.files 0 w.ends.0 [] w.ends.1; status_is = refl; out_is = w.ends.2; line_is = refl }))) says.ends;
+      }
+  serves_tree (Err build.Oom) status w says =
+      record {
+        files = w.files;
+        out = w.out;
+        line = [];
+        loads = w.loads;
+        writes = w.writes;
+        says = subst (λ (t : Option (List ℕ)). Appends before t []) (sym says.same) (Appends-none before);
+        ends = inr (record {
+          status_is = inr (ap code_of says.own_status);
+          written = elim w.ends [ inl h ↦ inl (h.0, refl, first w.files h.1) | inr h ↦ inr (0, h.0, [], inl (is_due w.files 0 h.0 [] h.1), h.2, front_all []) ];
+        });
+      }
+
+module _ (words : List (List ℕ)) (root : List ℕ) (old new : List Handed) (out_before out_after before after : Option (List ℕ)) (ended : Result (Unit {0}) BuildErr) (status : Status) where
+  pub serves_build : command_of words ≡ Some (Build root) → WritesTree IsBuildDue root old new out_before out_after ended → Reports ended before after status → Serves words old new out_before out_after before after (code_of status)
+  serves_build is =
+      serves_tree words IsBuildDue root (λ files status out line h. subst (λ (o : Option CommandLine). IsCommandDue o files status out line) (sym is) h)
+      (λ files h. subst (λ (o : Option CommandLine). IsBeforeLoad o files) (sym is) h)
+      (λ files h. subst (λ (o : Option CommandLine). AreFirst o files) (sym is) h) old new out_before out_after before after ended status
+
+  pub serves_check : command_of words ≡ Some (Check root) → WritesTree IsCheckDue root old new out_before out_after ended → Reports ended before after status → Serves words old new out_before out_after before after (code_of status)
+  serves_check is =
+      serves_tree words IsCheckDue root (λ files status out line h. subst (λ (o : Option CommandLine). IsCommandDue o files status out line) (sym is) h)
+      (λ files h. subst (λ (o : Option CommandLine). IsBeforeLoad o files) (sym is) h)
+      (λ files h. subst (λ (o : Option CommandLine). AreFirst o files) (sym is) h) old new out_before out_after before after ended status

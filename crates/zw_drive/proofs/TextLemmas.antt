@@ -15,13 +15,13 @@ builds : (text : List ℕ) (m : Module) → IsCompiled text m → IsSpelled m �
 builds text m right spelled = record { built = m; means = right.0; spelled = spelled right.1 }
 
 -- the sink failed
-pub text_cut : (text : List ℕ) (m : Module) (old new : Option (List ℕ)) → IsCompiled text m → IsSpelled m → AppendsFront old new (spelling m) → WritesText text old new (Err build.OutFault)
-text_cut text m old new right spelled took =
+pub text_cut : (root text : List ℕ) (m : Module) (old new : Option (List ℕ)) → IsCompiled text m → IsSpelled m → AppendsFront old new (spelling m) → WritesText root text old new (Err build.OutFault)
+text_cut root text m old new right spelled took =
     (take took.0 (spelling m), took.1, (spelling m, builds text m right spelled, (took.0, refl)))
 
 -- memory ran out
-pub text_unwritten : (text : List ℕ) (m : Module) (old new : Option (List ℕ)) → IsCompiled text m → IsSpelled m ⊎ (new ≡ old) → AppendsFront old new (spelling m) → WritesText text old new (Err build.Oom)
-text_unwritten text m old new right (inl spelled) took =
+pub text_unwritten : (root text : List ℕ) (m : Module) (old new : Option (List ℕ)) → IsCompiled text m → IsSpelled m ⊎ (new ≡ old) → AppendsFront old new (spelling m) → WritesText root text old new (Err build.Oom)
+text_unwritten root text m old new right (inl spelled) took =
     (take took.0 (spelling m), took.1, inr (spelling m, builds text m right spelled, (took.0, refl)))
-text_unwritten text m old new right (inr same) took =
+text_unwritten root text m old new right (inr same) took =
     ([], subst (λ (t : Option (List ℕ)). Appends old t []) (sym same) (Appends-none old), inl refl)

@@ -7,7 +7,7 @@ use Rattle.zw_base.specs.declared.files.Answer.{Answer}
 use Rattle.zw_base.specs.declared.files.Answer.TheVariants as answers
 use Rattle.zw_base.specs.declared.files.Handed.{Handed}
 use Rattle.zw_drive.specs.Commands.{CommandLine, Validate, command_of}
-use Rattle.zw_drive.specs.Due.{IsBlamed, IsCommandDue, IsDue, IsLoadDue, Serves}
+use Rattle.zw_drive.specs.Due.{AreFirst, IsBlamed, IsCommandDue, IsDue, IsBeforeLoad, Serves}
 use Rattle.zw_drive.specs.Lines.{tree_fault_line, out_fault_line}
 use Rattle.zw_drive.specs.Refusals.{refusal_line, status_of}
 use Rattle.zw_drive.specs.Statuses.{code_of}
@@ -80,7 +80,7 @@ validates_bytes file old new before after bytes (Err validate.Oom) adds w =
       out = w.0;
       loads = adds.0;
       writes = w.1;
-      ends = elim w.2 [ inl e ↦ inl e | inr h ↦ inr (valid_line, due_valid file bytes valid_line adds.1 h.0 refl, h.1) ];
+      ends = elim w.2 [ inl e ↦ inl (e, inr (answers.Bytes bytes, refl)) | inr h ↦ inr (valid_line, due_valid file bytes valid_line adds.1 h.0 refl, h.1) ];
     }
 
 -- the load gave no bytes
@@ -89,7 +89,8 @@ validates_nothing file old new taken (validate.Refused r) h =
     record { files = pair_of file h.0; out = []; loads = h.1; writes = Appends-none taken; ends = (refl, (h.0, refl, h.2)) }
 validates_nothing file old new taken validate.TreeFault h = record { files = []; out = []; loads = h ∙ sym (append-nil old); writes = Appends-none taken; ends = (refl, refl) }
 validates_nothing file old new taken validate.OutFault h = absurd h
-validates_nothing file old new taken validate.Oom h = record { files = []; out = []; loads = h ∙ sym (append-nil old); writes = Appends-none taken; ends = inl refl }
+validates_nothing file old new taken validate.Oom h =
+    record { files = []; out = []; loads = h ∙ sym (append-nil old); writes = Appends-none taken; ends = inl (refl, inl refl) }
 
 -- ---- reports
 
@@ -128,7 +129,7 @@ serves_validate words file old new out_before out_after before after (Err valida
       writes = w.writes;
       says = says.puts;
       ends = said_ends words w.files w.out tree_fault_line says.said statuses.TreeFault status
-          (inr (inl (record { asked = subst (λ (o : Option CommandLine). IsLoadDue o) (sym is) tt; files_are = w.ends.1; status_is = refl; out_is = w.ends.0; line_is = refl }))) says.ends;
+          (inr (inl (record { at_load = subst (λ (o : Option CommandLine). IsBeforeLoad o w.files) (sym is) w.ends.1; status_is = refl; out_is = w.ends.0; line_is = refl }))) says.ends;
     }
 serves_validate words file old new out_before out_after before after (Err validate.OutFault) status w is says =
     record {
@@ -151,7 +152,7 @@ serves_validate words file old new out_before out_after before after (Err valida
       says = subst (λ (t : Option (List ℕ)). Appends before t []) (sym says.same) (Appends-none before);
       ends = inr (record {
         status_is = inr (ap code_of says.own_status);
-        written = elim w.ends [ inl e ↦ inl (e, refl) | inr h ↦ inr (0, h.0, [], inl (due_words words file w.files 0 h.0 [] is h.1), h.2, front_all []) ];
+        written = elim w.ends [ inl e ↦ inl (e.0, refl, subst (λ (o : Option CommandLine). AreFirst o w.files) (sym is) e.1) | inr h ↦ inr (0, h.0, [], inl (due_words words file w.files 0 h.0 [] is h.1), h.2, front_all []) ];
       });
     }
 

@@ -4,16 +4,20 @@ use Rattle.std.specs.Str.{bytes_eq}
 use Rattle.zw_drive.specs.declared.command.Command.{Command}
 use Rattle.zw_drive.specs.declared.command.Command.TheVariants as code
 
--- what a command line asks for: building the tree of files below a root, or validating a module's file
+-- what a command line asks for: checking or building the tree of files below a root, or validating a module's file
 pub data CommandLine : Type 0 where
+  Check : (root : List ℕ) → CommandLine
   Build : (root : List ℕ) → CommandLine
   Validate : (file : List ℕ) → CommandLine
 
 -- the command of a verb and one word
 abbrev pub command_on : List ℕ → List ℕ → Option CommandLine
-command_on verb word = if bytes_eq verb (codes "build") then Some (Build word) else (if bytes_eq verb (codes "validate") then Some (Validate word) else None)
+command_on verb word =
+    if bytes_eq verb (codes "check")
+    then Some (Check word)
+    else (if bytes_eq verb (codes "build") then Some (Build word) else (if bytes_eq verb (codes "validate") then Some (Validate word) else None))
 
--- the command of these words, where they are one: `build` or `validate`, and a word that isn't empty
+-- the command of these words, where they are one: `check`, `build` or `validate`, and a word that isn't empty
 abbrev pub command_of : List (List ℕ) → Option CommandLine
 command_of [] = None
 command_of (verb ∷ []) = None
@@ -22,6 +26,7 @@ command_of (verb ∷ word ∷ more ∷ words) = None
 
 -- the command line that a command of the code stands for
 abbrev pub line_of : Command → Option CommandLine
+line_of (code.Check root) = Some (Check root.now)
 line_of (code.Build root) = Some (Build root.now)
 line_of (code.Validate file) = Some (Validate file.now)
 line_of code.Unknown = None

@@ -1,6 +1,5 @@
 pub mod Commands
 pub mod Lines
-pub mod Stops
 pub mod Statuses
 pub mod Fronts
 pub mod Refusals

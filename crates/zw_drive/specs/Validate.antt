@@ -125,13 +125,17 @@ FileLoads file old new (Err validate.TreeFault) = new ≡ old
 FileLoads file old new (Err validate.OutFault) = ⊥
 FileLoads file old new (Err validate.Oom) = new ≡ old
 
+-- the tree handed over the file, or nothing
+abbrev pub IsFileAtMost : List ℕ → List Handed → Type 0
+IsFileAtMost file files = (files ≡ []) ⊎ ((answer : Answer) × (files ≡ record { path = file; answer = answer } ∷ []))
+
 -- how validating a file ends, with these files handed over and these bytes taken
 abbrev pub ValidateEnds : List ℕ → List Handed → List ℕ → Result (Unit {0}) ValidateErr → Type 0
 ValidateEnds file files out (Ok x) = IsValidateDue file files 0 out []
 ValidateEnds file files out (Err (validate.Refused r)) = (out ≡ []) × IsValidateDue file files (code_of (status_of r)) [] (refusal_line file r)
 ValidateEnds file files out (Err validate.TreeFault) = (out ≡ []) × (files ≡ [])
 ValidateEnds file files out (Err validate.OutFault) = (due : List ℕ) × IsValidateDue file files 0 due [] × IsFront out due
-ValidateEnds file files out (Err validate.Oom) = (out ≡ []) ⊎ ((due : List ℕ) × IsValidateDue file files 0 due [] × IsFront out due)
+ValidateEnds file files out (Err validate.Oom) = ((out ≡ []) × IsFileAtMost file files) ⊎ ((due : List ℕ) × IsValidateDue file files 0 due [] × IsFront out due)
 
 -- the tree handed over files, and the output took bytes, with which validating ended so
 pub record ValidatesFile (file : List ℕ) (loaded_before loaded_after : List Handed) (taken_before taken_after : Option (List ℕ)) (result : Result (Unit {0}) ValidateErr) : Type 0 where

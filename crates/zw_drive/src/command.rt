@@ -7,6 +7,8 @@ use zw_base::Word;
 /// What a command line asks for.
 #[derive(Clone, Copy, Debug)]
 pub enum Command<'a> {
+    /// Checks the tree of files below this root.
+    Check { root: &'a Word },
     /// Builds the tree of files below this root, and writes the module.
     Build { root: &'a Word },
     /// Reads and validates the module's file at this path.
@@ -29,6 +31,9 @@ pub fn read_command(words: &[Word]) -> Command<'_>
 fn read_command_on<'a>(verb: &Word, word: &'a Word) -> Command<'a>
     ensures { line_of result ≡ command_on verb.now word.now }
 {
+    if verb.bytes() == b"check".as_slice() {
+        return Command::Check { root: word };
+    }
     if verb.bytes() == b"build".as_slice() {
         return Command::Build { root: word };
     }

@@ -3,7 +3,7 @@ ghost use Rattle.std.specs.Prelude.{◌≡◌, [], ◌∷◌};
 ghost use Rattle.zw_drive.specs.Due.{Serves, IsBlamed};
 ghost use Rattle.zw_drive.specs.Ends.{code_of, Reports, HasNamedStop};
 
-use crate::build::{BuildErr, build};
+use crate::build::{BuildErr, build, check};
 use crate::command::{Command, read_command};
 use crate::lines::{OUT_FAULT, TREE_FAULT, USAGE, stop_line};
 use crate::say::say;
@@ -12,8 +12,8 @@ use crate::validate::{report_validated, validate};
 use std::alloc::Global;
 use zw_base::{Sink, Source, Tree, Word};
 
-/// Does what the words of a command line ask for, and answers the status: 0 where all was written, 1 where the tree of
-/// files has a stop or the module's file is absent or too long, 2 where the words are no command, 6 where the file is no valid
+/// Does what the words of a command line ask for, and answers the status: 0 where the tree passed or all was written, 1 where the
+/// tree of files has a stop or the module's file is absent or too long, 2 where the words are no command, 6 where the file is no valid
 /// module, 7, 9 and 10 for a fault of `tree`, `out` and `diag`, and 11 for want
 /// of memory. Only commands that say so read `input`.
 pub fn zig<T: Tree, S: Source, O: Sink, D: Sink>(
@@ -54,9 +54,13 @@ fn serve<T: Tree, O: Sink, D: Sink>(
 {
     match read_command(words) {
         Command::Unknown => say(diag, Status::Usage, USAGE.as_bytes()),
+        Command::Check { root } => {
+            let checked = check(alloc, root, tree);
+            report(alloc, checked, diag)
+        }
         Command::Build { root } => {
             let built = build(alloc, root, tree, out);
-            report(alloc, root, built, diag)
+            report(alloc, built, diag)
         }
         Command::Validate { file } => {
             let validated = validate(alloc, file, tree, out);
@@ -65,15 +69,15 @@ fn serve<T: Tree, O: Sink, D: Sink>(
     }
 }
 
-/// Says how building the tree below this root ended.
-fn report<D: Sink>(alloc: Global, root: &Word, built: Result<(), BuildErr>, diag: &mut D) -> Status
-    requires { HasNamedStop built }
-    ensures reports { Reports root.now built (D.taken diag.old) (D.taken diag.new) result }
+/// Says how checking or building a tree ended.
+fn report<D: Sink>(alloc: Global, ended: Result<(), BuildErr>, diag: &mut D) -> Status
+    requires { HasNamedStop ended }
+    ensures reports { Reports ended (D.taken diag.old) (D.taken diag.new) result }
     ensures blamed { IsBlamed (D.faults diag.old) (D.faults diag.new) (code_of result) 10 [] }
 {
-    match built {
+    match ended {
         Ok(()) => Status::Done,
-        Err(BuildErr::Stop(stop)) => match stop_line(alloc, root, stop) {
+        Err(BuildErr::Stop(stop, path)) => match stop_line(alloc, &path, stop) {
             Ok(line) => say(diag, Status::Stopped, &line),
             Err(_) => Status::OutOfMemory,
         },

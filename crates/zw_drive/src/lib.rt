@@ -11,7 +11,6 @@ mod lines;
 mod refusal;
 mod say;
 mod status;
-mod stops;
 mod validate;
 
 pub use drive::zig;

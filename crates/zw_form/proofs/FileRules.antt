@@ -1,17 +1,17 @@
 -- A file whose members pass keeps the rules.
 use Rattle.std.proofs.Common.{◌≡◌, ◌≢◌, ℕ, zero, suc, ◌+◌, ◌≤◌, Bool, true, false, if◌then◌else◌, List, [], ◌∷◌, ◌++◌, map, length, All, AllPairs, Contains, Option, Some, None, refl, sym, ap, ◌∙◌, subst, arith}
-use Rattle.std.specs.List.{flat_map, list_any}
+use Rattle.std.specs.List.{filter, flat_map, list_any}
 use Rattle.std.specs.Str.{bytes_eq}
 use Rattle.std.proofs.lemmas.List.Concat.{flat_map-append}
 use Rattle.std.proofs.lemmas.List.Elements.{All-nil, All-cons, All-head, All-tail, All-append, All-weaker, Contains-append_left, Contains-append_right}
 use Rattle.zw_token.specs.declared.token.Token.{Token}
-use Rattle.zw_tree.specs.Trees.{Forest, none, tree}
+use Rattle.zw_tree.specs.Trees.{Forest}
 use Rattle.zw_tree.specs.declared.ast.Entry.{Entry}
 use Rattle.zw_tree.specs.Numbering.{inside_first}
 use Rattle.zw_form.specs.Form.{HasForm}
-use Rattle.zw_form.specs.Members.{Member, Passes, IsLight, weight_of, declared_by, new_among, names_behind, members_behind, members_of, functions_of}
+use Rattle.zw_form.specs.Members.{Member, Passes, IsLight, weight_of, declared_by, new_among, names_behind, place_in, counts, members_behind, members_of, functions_of}
 use Rattle.zw_form.specs.declared.members.TheConstants.{WEIGHT_LIMIT}
-use Rattle.zw_form.specs.Nodes.{member_of, body_nodes}
+use Rattle.zw_form.specs.Nodes.{member_of, body_nodes, siblings}
 use Rattle.zw_form.specs.Rules.{KeepsNames, KeepsSteps, KeepsRules, name_of, externs_of, export_of, exports_of}
 use Rattle.zw_form.specs.Trees.{Tree, declaration_of}
 use Rattle.zw_form.specs.declared.source.Declaration.{Declaration}
@@ -33,13 +33,12 @@ new-step names (Some d) t is absent ds rest =
     ∙ ap (λ es. declaration_of d ∷ es) (sym behind ∙ rest)
 
 module _ (text : List ℕ) (tokens : List Token) (functions : List Declaration) where
-  pub all-new : (f : Forest Entry) (nodes : ℕ) (names : List (List ℕ)) → All (Passes functions) (members_behind text tokens f nodes names) → new_among names (declared_all (members_behind text tokens f nodes names)) ≡ declared_all (members_behind text tokens f nodes names)
-  all-new none nodes names all = refl
-  all-new (tree root inside behind) nodes names all =
-      let t = tree root inside behind in
+  pub all-new : (ts : List (Forest Entry)) (nodes : ℕ) (names : List (List ℕ)) → All (Passes functions) (members_behind text tokens ts nodes names) → new_among names (declared_all (members_behind text tokens ts nodes names)) ≡ declared_all (members_behind text tokens ts nodes names)
+  all-new [] nodes names all = refl
+  all-new (t ∷ behind) nodes names all =
       let o = member_of text tokens t in
       let after = members_behind text tokens behind (nodes + length (body_nodes t)) (names_behind names o) in
-      let m : Member = record { place = root.node.place; declares = o; nodes = body_nodes t; nodes_before = nodes; names_before = names } in
+      let m : Member = record { place = place_in t; declares = o; nodes = body_nodes t; nodes_before = nodes; names_before = names } in
       let here = (All-head (Passes functions) m after all).keeps in
       new-step names o here.declared here.declares here.is_new (declared_all after)
       (all-new behind (nodes + length (body_nodes t)) (names_behind names o) (All-tail (Passes functions) m after all))
@@ -123,7 +122,7 @@ form_rules text trees form =
     let functions = functions_of members in
     let file = map declaration_of trees in
     let declared = declared-trees members trees form.declares in
-    let all_new = all-new text form.tokens functions (inside_first form.file) 0 [] form.pass in
+    let all_new = all-new text form.tokens functions (filter (counts text form.tokens) (siblings (inside_first form.file))) 0 [] form.pass in
     let same : functions ≡ file = all_new ∙ declared in
     let differ = new-differ [] (declared_all members) all_new in
     record {

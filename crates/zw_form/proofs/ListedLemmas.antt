@@ -15,8 +15,8 @@ use Rattle.zw_tree.specs.Trees.{Forest, none, tree, count, preorder}
 use Rattle.zw_tree.specs.declared.ast.Entry.{Entry}
 use Rattle.zw_tree.proofs.Nodes.{last-within, from-below}
 use Rattle.zw_tree.proofs.Subtrees.{node-root}
-use Rattle.zw_form.specs.Listed.{AreFunctions, IsKept, place_in, members_at, declared_at, functions_among, names_past, marks_of}
-use Rattle.zw_form.specs.Members.{Member, Keeps, Passes, IsLight, IsFirstStop, IsWeightStop, IsMemberStop, declared_by, functions_of, is_new, members_behind, names_behind, new_among, weight_of}
+use Rattle.zw_form.specs.Listed.{AreFunctions, IsKept, members_at, declared_at, functions_among, names_past, marks_of}
+use Rattle.zw_form.specs.Members.{Member, Keeps, Passes, IsLight, IsFirstStop, IsWeightStop, IsMemberStop, declared_by, functions_of, is_new, names_behind, new_among, place_in, weight_of}
 use Rattle.zw_form.specs.NameSets.{names_in}
 use Rattle.zw_form.specs.Nodes.{body_nodes, member_of, siblings}
 use Rattle.zw_form.specs.Rules.{KeepsNames, KeepsSteps, name_of, externs_of, export_of}
@@ -132,21 +132,6 @@ functions-differ ds f are =
     subst (λ (l : List Declaration). AllPairs (λ x y. x ≢ y) (map name_of l)) (sym are.list) (among-differ (flat_map option_to_list ds))
 
 -- ---- members by their numbers
-
-abbrev member-is : List ℕ → List Token → ℕ → List (List ℕ) → Forest Entry → Member
-member-is text tokens nodes names t = record { place = place_in t; declares = member_of text tokens t; nodes = body_nodes t; nodes_before = nodes; names_before = names }
-
-pub members-are : (text : List ℕ) (tokens : List Token) (file : Forest Entry) (ns : List ℕ) (f : Forest Entry) (nodes : ℕ) (names : List (List ℕ)) → map (from file) ns ≡ siblings f
-    → members_at text tokens file ns nodes names ≡ members_behind text tokens f nodes names
-members-are text tokens file [] none nodes names h = refl
-members-are text tokens file [] (tree root inside behind) nodes names h = absurd (cc)
-members-are text tokens file (n ∷ ns) none nodes names h = absurd (cc)
-members-are text tokens file (n ∷ ns) (tree root inside behind) nodes names h =
-    let first : from file n ≡ tree root inside behind = cc in
-    let rest : map (from file) ns ≡ siblings behind = cc in
-    let t = tree root inside behind in
-    ap (λ (x : Forest Entry). member-is text tokens nodes names x ∷ members_at text tokens file ns (nodes + length (body_nodes x)) (names_behind names (member_of text tokens x))) first
-    ∙ ap (λ ms. member-is text tokens nodes names t ∷ ms) (members-are text tokens file ns behind (nodes + length (body_nodes t)) (names_behind names (member_of text tokens t)) rest)
 
 pub members-there : (file : Forest Entry) (ns : List ℕ) (f : Forest Entry) → map (from file) ns ≡ siblings f → All (λ n. n < count file) ns
 members-there file [] f h = All-nil (λ n. n < count file)

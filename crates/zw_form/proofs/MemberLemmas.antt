@@ -1,6 +1,10 @@
 -- The members of a file: where their bodies are, and that the first stop is one.
-use Rattle.std.proofs.Common.{◌≡◌, ◌≢◌, ℕ, zero, suc, ◌+◌, ◌-◌, ◌<◌, ◌⊎◌, inl, inr, List, [], ◌∷◌, ◌++◌, map, length, All, Contains, true, false, not, if◌then◌else◌, Option, Some, slice_get, refl, sym, ap, ◌∙◌, subst, arith}
+use Rattle.std.proofs.Common.{◌≡◌, ◌≢◌, ◌↔◌, ◌&&◌, ◌||◌, Bool, IsTrue, ℕ, zero, suc, ◌+◌, ◌-◌, ◌<◌, ◌⊎◌, inl, inr, List, [], ◌∷◌, ◌++◌, map, length, All, Contains, true, false, not, if◌then◌else◌, Option, Some, slice_get, refl, sym, ap, ◌∙◌, subst, arith}
 use Rattle.std.specs.Option.{option_map, option_to_list}
+use Rattle.std.specs.Str.{IsUtf8, is_utf8}
+use Rattle.std.proofs.lemmas.Bool.{false≢true}
+use Rattle.std.proofs.lemmas.Str.{IsUtf8-from_is_utf8, is_utf8-from_IsUtf8}
+use Rattle.zw_token.specs.declared.token.Token.{Token}
 use Rattle.std.proofs.lemmas.List.{length-map}
 use Rattle.std.proofs.lemmas.List.Elements.{All-head, All-tail}
 use Rattle.std.proofs.lemmas.Option.{slice_get_within}
@@ -8,13 +12,14 @@ use Rattle.zw_base.specs.declared.stop.Stop.{Stop}
 use Rattle.zw_tree.specs.Numbering.{from, inside_first, below}
 use Rattle.zw_tree.specs.Trees.{Forest, none, tree, count, preorder}
 use Rattle.zw_tree.specs.declared.ast.Entry.{Entry}
-use Rattle.zw_form.specs.Members.{Member, Passes, IsMemberStop, IsFirstStop, IsLight, IsWeightStop, functions_of, is_new, new_among}
-use Rattle.zw_form.specs.Nodes.{siblings, split_last, role_at, nodes_by, nodes_in, body_nodes}
+use Rattle.zw_form.specs.Members.{Member, Passes, IsMemberStop, IsFirstStop, IsLight, IsWeightStop, counts, functions_of, is_named, is_new, new_among}
+use Rattle.zw_form.specs.Nodes.{siblings, split_last, role_at, nodes_by, nodes_in, body_nodes, is_unit, member_of}
 use Rattle.zw_form.specs.declared.members.TheConstants.{NODE_LIMIT, NODES, FRAME_WEIGHT}
 use Rattle.zw_form.specs.declared.roles.Role.{Role}
 use Rattle.zw_form.specs.declared.roles.Role.TheVariants as role
 use Rattle.zw_form.specs.declared.source.Declaration.{Declaration}
-use Rattle.zw_form.specs.Rules.{name_of}
+use Rattle.zw_form.specs.Rules.{is_reserved, name_of}
+use Rattle.zw_form.specs.Trees.{declaration_of}
 use Rattle.zw_form.proofs.NameLemmas.{any-Contains, any-absent}
 use Rattle.zw_form.proofs.Standing.{from-there, last_get}
 
@@ -61,6 +66,7 @@ module _ (file : Forest Entry) (member : ℕ) (children : List ℕ) (last : ℕ)
   no_nodes role.Identifier f other = refl
   no_nodes role.QuotedIdentifier f other = refl
   no_nodes role.Number f other = refl
+  no_nodes role.Comptime f other = refl
   no_nodes role.Other f other = refl
 
   pub no-block : role_at (from file last) ≢ role.Block → body_nodes (from file member) ≡ []
@@ -124,6 +130,28 @@ one_file-stop members s t (inl a) (inl b) = one_first-stop members s t a b
 one_file-stop members s t (inl a) (inr b) = absurd (pass-first members s b.all_pass a)
 one_file-stop members s t (inr a) (inl b) = absurd (pass-first members t a.all_pass b)
 one_file-stop members s t (inr a) (inr b) = one_weight-stop members s t a b
+
+-- ---- members that count
+
+-- a name that a function may have
+named-is : (name : List ℕ) (b : Bool) → (IsTrue b ↔ (IsUtf8 name × (is_reserved name ≡ false))) → b ≡ (is_utf8 name && not (is_reserved name))
+named-is name true h =
+    let both = h.0 refl in
+    sym (ap (λ x. x && not (is_reserved name)) (is_utf8-from_IsUtf8 name both.0) ∙ ap not both.1)
+named-is name false h = by (is_utf8 name) (is_reserved name) refl refl
+  where
+    by : (x y : Bool) → is_utf8 name ≡ x → is_reserved name ≡ y → false ≡ (x && not y)
+    by false y text free = refl
+    by true true text free = refl
+    by true false text free = absurd (false≢true (h.1 (IsUtf8-from_is_utf8 name text, free)))
+
+-- what isn't a unit counts where it declares a function with such a name
+pub declared-counts : (text : List ℕ) (tokens : List Token) (t : Forest Entry) → is_unit t ≡ false → (d : Declaration) → option_map declaration_of (member_of text tokens t) ≡ Some d
+    → (name : List ℕ) → name ≡ name_of d → (b : Bool) → (IsTrue b ↔ (IsUtf8 name × (is_reserved name ≡ false))) → b ≡ counts text tokens t
+declared-counts text tokens t other d declared name named b may =
+    named-is name b may
+    ∙ ap (λ n. is_utf8 n && not (is_reserved n)) named
+    ∙ sym (ap (λ u. u || is_named (option_map declaration_of (member_of text tokens t))) other ∙ ap is_named declared)
 
 -- ---- functions of new names
 

@@ -1,6 +1,6 @@
 -- Numbers in a text of the form are of 32 bits: each is read so, and steps have no others.
 use Rattle.std.proofs.Common.{◌≡◌, ℕ, ℤ, pos, negsuc, ◌+◌, ◌<◌, ◌^◌, Bool, true, false, ◌&&◌, nat_lt, if◌then◌else◌, List, [], ◌∷◌, ◌++◌, map, length, All, Option, Some, None, refl, subst}
-use Rattle.std.specs.List.{flat_map}
+use Rattle.std.specs.List.{filter, flat_map}
 use Rattle.std.specs.Option.{option_map, option_and_then}
 use Rattle.std.specs.Prelude.{IfSome}
 use Rattle.std.proofs.lemmas.Bool.{and_parts, ltb-true}
@@ -11,7 +11,7 @@ use Rattle.zw_tree.specs.Numbering.{inside_first}
 use Rattle.zw_tree.specs.Trees.{Forest, none, tree}
 use Rattle.zw_tree.specs.declared.ast.Entry.{Entry}
 use Rattle.zw_form.specs.Form.{FitsStep, HasForm, IsSmall}
-use Rattle.zw_form.specs.Members.{Member, members_behind, members_of, names_behind}
+use Rattle.zw_form.specs.Members.{Member, counts, members_behind, members_of, names_behind}
 use Rattle.zw_form.specs.Nodes.{both, each, split_last, siblings, role_at, role_of, spelled, plain_name, introduced, number_in, is_number, operated, call_in, sum_by, sums_of, call_by, statement_of, only, return_by, returned, body_in, body_by, body_of, body_nodes, signature_of, extern_tree, export_tree, export_in, function_by, member_by, member_of}
 use Rattle.zw_form.specs.Rules.{steps_of}
 use Rattle.zw_form.specs.Trees.{Sum, Parameter, Number, Operate, Result, Sums, NoSum, More, CallStatement, Body, Tree, Export, count_of, sum_steps, args_steps, statement_steps, body_steps, declaration_of}
@@ -196,13 +196,12 @@ module _ (text : List ℕ) (tokens : List Token) where
       (λ n h. function-fits (role_at linkage) parts n) (introduced name) (any (introduced name))
   member_by-fits _ parts = tt
 
-  all-fit : (f : Forest Entry) (nodes : ℕ) (names : List (List ℕ)) (trees : List Tree) → map (λ (m : Member). m.declares) (members_behind text tokens f nodes names) ≡ map (λ (t : Tree). Some t) trees
+  all-fit : (fs : List (Forest Entry)) (nodes : ℕ) (names : List (List ℕ)) (trees : List Tree) → map (λ (m : Member). m.declares) (members_behind text tokens fs nodes names) ≡ map (λ (t : Tree). Some t) trees
       → All (λ (t : Tree). All FitsStep (steps_of (declaration_of t))) trees
-  all-fit none nodes names [] h = All-nil (λ (t : Tree). All FitsStep (steps_of (declaration_of t)))
-  all-fit none nodes names (t ∷ ts) h = absurd (cc)
-  all-fit (tree root below behind) nodes names [] h = absurd (cc)
-  all-fit (tree root below behind) nodes names (t ∷ ts) h =
-      let here = tree root below behind in
+  all-fit [] nodes names [] h = All-nil (λ (t : Tree). All FitsStep (steps_of (declaration_of t)))
+  all-fit [] nodes names (t ∷ ts) h = absurd (cc)
+  all-fit (here ∷ behind) nodes names [] h = absurd (cc)
+  all-fit (here ∷ behind) nodes names (t ∷ ts) h =
       let first : member_of text tokens here ≡ Some t = cc in
       let after = nodes + length (body_nodes here) in
       let behind_names = names_behind names (member_of text tokens here) in
@@ -215,5 +214,5 @@ module _ (text : List ℕ) (tokens : List Token) where
 pub form_small : (text : List ℕ) (trees : List Tree) → HasForm text trees → IsSmall trees
 form_small text trees form = record {
   weights_are_small = form_light (members_of text form.tokens form.file) trees form.declares form.light;
-  numbers_fit = all-fit text form.tokens (inside_first form.file) 0 [] trees form.declares;
+  numbers_fit = all-fit text form.tokens (filter (counts text form.tokens) (siblings (inside_first form.file))) 0 [] trees form.declares;
 }

@@ -109,6 +109,7 @@ mentioned-sum role.Return name number below found h = absurd (cc)
 mentioned-sum role.Call name number below found h = absurd (cc)
 mentioned-sum (role.Operator operator) name number below found h = absurd (cc)
 mentioned-sum role.Number name number below found h = absurd (cc)
+mentioned-sum role.Comptime name number below found h = absurd (cc)
 mentioned-sum role.Other name number below found h = absurd (cc)
 
 -- which sum a node is, by its part
@@ -157,6 +158,7 @@ shape_is role.QuotedName name number below s h = absurd (cc)
 shape_is role.Parameter name number below s h = absurd (cc)
 shape_is role.Block name number below s h = absurd (cc)
 shape_is role.Return name number below s h = absurd (cc)
+shape_is role.Comptime name number below s h = absurd (cc)
 shape_is role.Other name number below s h = absurd (cc)
 
 number_role : (r : Role) → shape_of r ≡ 1 → r ≡ role.Number
@@ -174,6 +176,7 @@ number_role role.QuotedName h = absurd (omega arith)
 number_role role.Parameter h = absurd (omega arith)
 number_role role.Block h = absurd (omega arith)
 number_role role.Return h = absurd (omega arith)
+number_role role.Comptime h = absurd (omega arith)
 number_role role.Other h = absurd (omega arith)
 
 is_number-shape : (s : Sum) → shape s ≡ 1 → is_number s ≡ true
@@ -214,6 +217,7 @@ unmentioned role.QuotedName name number below h found is = cc
 unmentioned role.Parameter name number below h found is = cc
 unmentioned role.Block name number below h found is = cc
 unmentioned role.Return name number below h found is = cc
+unmentioned role.Comptime name number below h found is = cc
 unmentioned role.Other name number below h found is = cc
 
 pub no-callee : (s : Option Sum) (others : Option Sums) → ((name : List ℕ) → s ≢ Some (Parameter name)) → option_and_then call_in (both More s others) ≡ None

@@ -1,36 +1,22 @@
 -- What reading the members of a file gives, by the numbers of their nodes: the functions, and which members they are.
-use Rattle.std.specs.Prelude.{◌≡◌, ℕ, ◌+◌, Bool, true, List, [], ◌∷◌, ◌++◌, length, map, All, Option, Some, slice_get}
+use Rattle.std.specs.Prelude.{◌≡◌, ℕ, Bool, true, List, [], ◌∷◌, ◌++◌, map, All, Option, Some, slice_get}
 use Rattle.std.specs.List.{flat_map}
 use Rattle.std.specs.Option.{option_map, option_to_list}
-use Rattle.zw_base.specs.declared.stop.Place.{Place}
 use Rattle.zw_token.specs.declared.token.Token.{Token}
 use Rattle.zw_tree.specs.Numbering.{from}
-use Rattle.zw_tree.specs.Trees.{Forest, none, tree}
+use Rattle.zw_tree.specs.Trees.{Forest}
 use Rattle.zw_tree.specs.declared.ast.Entry.{Entry}
-use Rattle.zw_form.specs.Members.{Member, is_new, names_behind, new_among}
+use Rattle.zw_form.specs.Members.{Member, is_new, members_behind, new_among}
 use Rattle.zw_form.specs.NameSets.{names_in}
-use Rattle.zw_form.specs.Nodes.{member_of, body_nodes}
+use Rattle.zw_form.specs.Nodes.{member_of}
 use Rattle.zw_form.specs.Rules.{KeepsNames, KeepsSteps, name_of, externs_of, export_of}
 use Rattle.zw_form.specs.Trees.{declaration_of}
 use Rattle.zw_form.specs.declared.members.Functions.{Functions}
 use Rattle.zw_form.specs.declared.source.Declaration.{Declaration}
 
--- the place of the first root
-abbrev pub place_in : Forest Entry → Place
-place_in none = record { file = 0; line = 0; column = 0 }
-place_in (tree root below behind) = root.node.place
-
 -- the members that the nodes with these numbers are, behind so many nodes of bodies and these names
 abbrev pub members_at : List ℕ → List Token → Forest Entry → List ℕ → ℕ → List (List ℕ) → List Member
-members_at text tokens file [] nodes names = []
-members_at text tokens file (n ∷ ns) nodes names =
-    record {
-      place = place_in (from file n);
-      declares = member_of text tokens (from file n);
-      nodes = body_nodes (from file n);
-      nodes_before = nodes;
-      names_before = names;
-    } ∷ members_at text tokens file ns (nodes + length (body_nodes (from file n))) (names_behind names (member_of text tokens (from file n)))
+members_at text tokens file members nodes names = members_behind text tokens (map (from file) members) nodes names
 
 -- what these nodes declare, in steps
 abbrev pub declared_at : List ℕ → List Token → Forest Entry → List ℕ → List (Option Declaration)

@@ -1,22 +1,22 @@
 -- The members of a file in the order of the text, and the first stop that they have.
-use Rattle.std.specs.Prelude.{◌≡◌, ◌⊎◌, ℕ, ◌+◌, ◌-◌, ◌*◌, ◌≤◌, List, [], ◌∷◌, ◌++◌, length, map, Bool, false, not, All, Contains, Option, Some, None, slice_get, if◌then◌else◌}
-use Rattle.std.specs.List.{flat_map, list_any}
+use Rattle.std.specs.Prelude.{◌≡◌, ◌⊎◌, ◌&&◌, ◌||◌, ℕ, ◌+◌, ◌-◌, ◌*◌, ◌≤◌, List, [], ◌∷◌, ◌++◌, length, map, Bool, false, not, All, Contains, Option, Some, None, slice_get, if◌then◌else◌}
+use Rattle.std.specs.List.{filter, flat_map, list_any}
 use Rattle.std.specs.Option.{option_map, option_to_list}
-use Rattle.std.specs.Str.{bytes_eq}
+use Rattle.std.specs.Str.{bytes_eq, is_utf8}
 use Rattle.zw_base.specs.declared.stop.Place.{Place}
 use Rattle.zw_base.specs.declared.stop.Stop.{Stop}
 use Rattle.zw_token.specs.declared.token.Token.{Token}
 use Rattle.zw_tree.specs.Numbering.{inside_first}
 use Rattle.zw_tree.specs.Trees.{Forest, none, tree}
 use Rattle.zw_tree.specs.declared.ast.Entry.{Entry}
-use Rattle.zw_form.specs.Nodes.{member_of, body_nodes}
-use Rattle.zw_form.specs.Rules.{KeepsNames, KeepsSteps, name_of, externs_of, export_of}
+use Rattle.zw_form.specs.Nodes.{member_of, body_nodes, is_unit, siblings}
+use Rattle.zw_form.specs.Rules.{KeepsNames, KeepsSteps, is_reserved, name_of, externs_of, export_of}
 use Rattle.zw_form.specs.Trees.{Tree, declaration_of}
 use Rattle.zw_form.specs.declared.members.TheConstants.{NOT_BUILT, NODES, FRAME_WEIGHT, NODE_LIMIT, WEIGHT_LIMIT, PARAMETER_WEIGHT}
 use Rattle.zw_form.specs.declared.source.Declaration.{Declaration}
 use Rattle.zw_form.specs.declared.source.Declaration.TheVariants.{Extern, Export}
 
--- A member of a file: where it begins, what it declares where it is of the form, the nodes of its body, how many nodes of bodies
+-- A member of a file that counts: where it begins, what it declares where it is of the form, the nodes of its body, how many nodes of bodies
 -- stand before it, and the names of the functions that are declared before it.
 pub record Member : Type 0 where
   pub place : Place
@@ -38,21 +38,36 @@ new_among names (d ∷ ds) = if list_any (bytes_eq (name_of d)) names then new_a
 abbrev pub names_behind : List (List ℕ) → Option Tree → List (List ℕ)
 names_behind names declares = names ++ map name_of (new_among names (declared_by declares))
 
--- the members that these trees are, behind so many nodes and these names
-abbrev pub members_behind : List ℕ → List Token → Forest Entry → ℕ → List (List ℕ) → List Member
-members_behind text tokens none nodes names = []
-members_behind text tokens (tree root below behind) nodes names =
+-- the place of the first root
+abbrev pub place_in : Forest Entry → Place
+place_in none = record { file = 0; line = 0; column = 0 }
+place_in (tree root below behind) = root.node.place
+
+-- A function of the host is declared where its name is UTF-8, and isn't of what a module exports beside functions.
+abbrev pub is_named : Option Declaration → Bool
+is_named None = false
+is_named (Some d) = is_utf8 (name_of d) && not (is_reserved (name_of d))
+
+-- A tree below the root of a file counts as a member where it is a unit, or declares a function of the host. Any other is
+-- nothing to the form: it is no stop, and declares nothing.
+abbrev pub counts : List ℕ → List Token → Forest Entry → Bool
+counts text tokens t = is_unit t || is_named (option_map declaration_of (member_of text tokens t))
+
+-- the members that the first of these trees each are, behind so many nodes and these names
+abbrev pub members_behind : List ℕ → List Token → List (Forest Entry) → ℕ → List (List ℕ) → List Member
+members_behind text tokens [] nodes names = []
+members_behind text tokens (t ∷ ts) nodes names =
     record {
-      place = root.node.place;
-      declares = member_of text tokens (tree root below behind);
-      nodes = body_nodes (tree root below behind);
+      place = place_in t;
+      declares = member_of text tokens t;
+      nodes = body_nodes t;
       nodes_before = nodes;
       names_before = names;
-    } ∷ members_behind text tokens behind (nodes + length (body_nodes (tree root below behind))) (names_behind names (member_of text tokens (tree root below behind)))
+    } ∷ members_behind text tokens ts (nodes + length (body_nodes t)) (names_behind names (member_of text tokens t))
 
--- the members of a file with this tree
+-- the members of a file with this tree: those trees that count
 abbrev pub members_of : List ℕ → List Token → Forest Entry → List Member
-members_of text tokens file = members_behind text tokens (inside_first file) 0 []
+members_of text tokens file = members_behind text tokens (filter (counts text tokens) (siblings (inside_first file))) 0 []
 
 -- whether a declaration has a name that none before has
 abbrev pub is_new : List (List ℕ) → Option Declaration → Bool

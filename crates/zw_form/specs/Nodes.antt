@@ -21,6 +21,7 @@ use Rattle.zw_form.specs.declared.source.Operator.TheVariants.{Add, Subtract, Ad
 -- the part that a node of this kind has in the form
 abbrev pub role_of : NodeKind → Role
 role_of kind.Function = role.Function
+role_of kind.ComptimeBlock = role.Comptime
 role_of kind.ExternWord = role.Extern
 role_of kind.ExportWord = role.Export
 role_of kind.Name = role.Name
@@ -260,6 +261,20 @@ member_by _ text tokens parts = None
 -- the declaration that a member of a file is
 abbrev pub member_of : List ℕ → List Token → Forest Entry → Option Tree
 member_of text tokens t = member_by (role_at t) text tokens (siblings (inside_first t))
+
+-- whether it is the word `export`
+abbrev pub is_export : Role → Bool
+is_export role.Export = true
+is_export _ = false
+
+-- A unit: a block that runs at compile time, or a function with `export`, which is its first word or stands behind `pub`.
+abbrev pub unit_by : Role → List (Forest Entry) → Bool
+unit_by role.Comptime parts = true
+unit_by role.Function (first ∷ (second ∷ parts)) = is_export (role_at first) || is_export (role_at second)
+unit_by _ parts = false
+
+abbrev pub is_unit : Forest Entry → Bool
+is_unit t = unit_by (role_at t) (siblings (inside_first t))
 
 -- The nodes of a function's body, which is its last part: all that stand below its block.
 abbrev pub nodes_by : Role → Forest Entry → List Entry

@@ -1,14 +1,15 @@
 // The members of a file: what they declare, and the first stop that they have.
 ghost use Rattle.std.specs.Prelude.{◌≡◌, ◌≢◌, ℕ, ◌<◌, ◌≤◌, ◌↔◌, ◌++◌, ◌∷◌, [], List, map, slice_get, IfOk, IsTrue, MatchOption, OnOk, All, AllPairs, Some};
+ghost use Rattle.std.specs.List.{filter};
 ghost use Rattle.std.specs.Option.{option_map, option_to_list};
 ghost use Rattle.zw_tree.specs.Numbering.{below, from, last, node_at};
 ghost use Rattle.zw_tree.specs.Trees.{count, preorder};
 ghost use Rattle.zw_tree.specs.declared.ast.Entry.{Entry};
 ghost use Rattle.zw_form.specs.Listed.{AreFunctions, IsKept, declared_at, members_at};
-ghost use Rattle.zw_form.specs.Members.{IsFirstStop, IsLight, IsWeightStop, Passes, functions_of, is_new, new_among, weight_of};
+ghost use Rattle.zw_form.specs.Members.{IsFirstStop, IsLight, IsWeightStop, Passes, counts, functions_of, is_new, new_among, weight_of};
 ghost use Rattle.zw_form.specs.NameSets.{names_in};
 ghost use Rattle.zw_form.specs.Rules.{name_of};
-ghost use Rattle.zw_form.specs.Nodes.{body_nodes};
+ghost use Rattle.zw_form.specs.Nodes.{body_nodes, is_export, is_unit};
 ghost use Rattle.zw_form.specs.declared.source.Declaration.{Declaration};
 ghost use Rattle.zw_token.specs.declared.token.Token.{Token};
 
@@ -17,7 +18,7 @@ use crate::functions::read_member;
 use crate::names::insert;
 use crate::nodes::{children, role};
 use crate::roles::Role;
-use crate::rules::keeps_rules;
+use crate::rules::{keeps_rules, may_be_function};
 use indexmap::IndexSet;
 use sqlite_items::Items;
 use std::alloc::Global;
@@ -72,6 +73,62 @@ pub(crate) fn functions_of(
         add(alloc, &mut functions, declaration)?;
     }
     Ok(functions)
+}
+
+/// Whether a function has `export`, or a member is a block that runs at compile time.
+fn is_unit(ast: &Ast, n: u32) -> bool
+    ensures { result ≡ is_unit (from ast.now n) }
+{
+    match role(ast, n) {
+        Role::Comptime => true,
+        Role::Function => match children(ast, n) {
+            [first, second, ..] => is_export(role(ast, *first)) || is_export(role(ast, *second)),
+            _ => false,
+        },
+        _ => false,
+    }
+}
+
+/// Whether a node is the word `export`.
+fn is_export(role: Role) -> bool
+    ensures { result ≡ is_export role }
+{
+    match role {
+        Role::Export => true,
+        _ => false,
+    }
+}
+
+/// Whether a tree below the root counts as a member of the file.
+fn counts(alloc: Global, text: &[u8], tokens: &[Token], ast: &Ast, n: u32) -> Result<bool, Oom>
+    ensures { IfOk result (λ answer. answer ≡ counts text.now tokens.now (from ast.now n)) }
+{
+    if is_unit(ast, n) {
+        return Ok(true);
+    }
+    match read_member(alloc, text, tokens, ast, n)? {
+        Some(declaration) => Ok(may_be_function(declaration.name())),
+        None => Ok(false),
+    }
+}
+
+/// Those of these nodes that count as members of the file.
+pub(crate) fn counting(
+    alloc: Global,
+    text: &[u8],
+    tokens: &[Token],
+    ast: &Ast,
+    nodes: &[u32],
+) -> Result<Items<u32>, Oom>
+    ensures { IfOk result (λ members. members ≡ filter (λ n. counts text.now tokens.now (from ast.now n)) nodes.now) }
+{
+    let mut members = Items::new(alloc);
+    for n in nodes {
+        if counts(alloc, text, tokens, ast, *n)? {
+            members.push(*n)?;
+        }
+    }
+    Ok(members)
 }
 
 /// Adds what a member declares, if it has a new name.

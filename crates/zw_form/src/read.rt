@@ -5,7 +5,7 @@ ghost use Rattle.zw_parse.specs.Syntax.{IsTreeOf};
 ghost use Rattle.zw_token.specs.Tokens.{Tokens};
 
 use crate::Program;
-use crate::members::{first_stop, functions_of, weight_stop};
+use crate::members::{counting, first_stop, functions_of, weight_stop};
 use crate::nodes::children;
 use crate::resolve::program_of;
 use std::alloc::Global;
@@ -34,7 +34,8 @@ fn read_file(alloc: Global, text: &[u8], tokens: &[Token], ast: &Ast) -> Result<
     ensures program { IfOk result (IsProgramOf text.now) }
     ensures refused { IfErr result (IsRefusal text.now) }
 {
-    let members = children(ast, 0);
+    let members = counting(alloc, text, tokens, ast, children(ast, 0))?;
+    let members = members.as_slice();
     let functions = functions_of(alloc, text, tokens, ast, members)?;
     if let Some(stop) = first_stop(alloc, ast, members, &functions)? {
         return Err(Refused::Stop(stop));

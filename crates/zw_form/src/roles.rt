@@ -9,6 +9,8 @@ use zw_tree::NodeKind;
 #[derive(Clone, Copy, Debug, PartialEq, Eq)]
 pub(crate) enum Role {
     Function,
+    /// `comptime` and a block, as a member of a file.
+    Comptime,
     /// `extern`
     Extern,
     /// `export`
@@ -35,6 +37,7 @@ pub(crate) fn role_of(kind: NodeKind) -> Role
 {
     match kind {
         NodeKind::Function => Role::Function,
+        NodeKind::ComptimeBlock => Role::Comptime,
         NodeKind::ExternWord => Role::Extern,
         NodeKind::ExportWord => Role::Export,
         NodeKind::Name => Role::Name,

@@ -33,7 +33,7 @@ pub fn extern_named<'f>(
 }
 
 /// Whether a function may have this name.
-fn may_be_function(name: &[u8]) -> bool
+pub(crate) fn may_be_function(name: &[u8]) -> bool
     ensures { IsTrue result ↔ (IsUtf8 name.now × (is_reserved name.now ≡ false)) }
 {
     from_utf8(name).is_ok() && !is_reserved(name)

@@ -11,6 +11,3 @@ pub use get::{get_i32, get_i64, get_u32};
 pub use laws::{longer_numbers, one_number, read_back, shortest_number};
 pub use leb::Leb;
 pub use put::{put_i32, put_i64, put_u32};
-
-#[cfg(test)]
-mod tests;

@@ -2,18 +2,23 @@
 use crate::fields::Field;
 use crate::mistake::{Mistake, Problem};
 use crate::table::Line;
-use crate::words::{natural, unescaped, word};
+use crate::words::{hex_bytes, natural, unescaped, word};
 use std::alloc::Global;
 
 /// Whether a line that begins with this word is a piece of bytes.
 pub fn is_piece(word: &str) -> bool {
-    matches!(word, "text" | "line" | "escaped" | "hex" | "repeat" | "the")
+    matches!(
+        word,
+        "text" | "line" | "escaped" | "hex" | "repeat" | "count" | "the"
+    )
 }
 
 /// Whether bytes may stand below a line that begins with this word, a row's head or a field.
 pub fn takes_bytes(word: &str) -> bool {
-    matches!(word, "bytes" | "build" | "session" | "tokens" | "trees")
-        || matches!(word, "file" | "input" | "out" | "ends" | "diag" | "left")
+    matches!(
+        word,
+        "bytes" | "build" | "session" | "tokens" | "trees" | "nodes" | "source"
+    ) || matches!(word, "file" | "input" | "out" | "ends" | "diag" | "left")
 }
 
 /// Adds what a piece spells.
@@ -30,20 +35,10 @@ pub fn add_piece(
             bytes.push(b'\n')?;
         }
         "escaped" => bytes.extend_from_slice(&unescaped(alloc, line, line.rest)?)?,
-        "hex" => add_hex(alloc, line, bytes)?,
+        "hex" => bytes.extend_from_slice(&hex_bytes(alloc, line, line.rest)?)?,
         "repeat" => add_repeated(alloc, line, bytes)?,
+        "count" => add_counted(alloc, line, bytes)?,
         _ => add_named(line, named, bytes)?,
-    }
-    Ok(())
-}
-
-/// `hex 00 61 73 6D`: pairs of hexadecimal digits.
-fn add_hex(alloc: Global, line: Line<'_>, bytes: &mut Vec<u8>) -> Result<(), Mistake> {
-    for group in line.rest.split_whitespace() {
-        match hex::decode(alloc, group) {
-            Ok(more) => bytes.extend_from_slice(&more)?,
-            Err(_) => return Err(Mistake::Wrong(line.number, Problem::BadHex)),
-        }
     }
     Ok(())
 }
@@ -56,6 +51,19 @@ fn add_repeated(alloc: Global, line: Line<'_>, bytes: &mut Vec<u8>) -> Result<()
     let copied = word(alloc, line, text)?;
     for _ in 0..natural(line, count)? {
         bytes.extend_from_slice(copied.bytes())?;
+    }
+    Ok(())
+}
+
+/// `count N TEXT`: so many copies of the text, each with its number in the place of `#`.
+fn add_counted(alloc: Global, line: Line<'_>, bytes: &mut Vec<u8>) -> Result<(), Mistake> {
+    let Some((count, text)) = line.rest.split_once(' ') else {
+        return Err(Mistake::Wrong(line.number, Problem::MissingWord));
+    };
+    let (front, behind) = text.split_once('#').unwrap_or((text, ""));
+    for number in 0..natural(line, count)? {
+        let numbered = format!(in alloc; "{front}{number}{behind}")?;
+        bytes.extend_from_slice(numbered.as_bytes())?;
     }
     Ok(())
 }

@@ -49,6 +49,18 @@ pub fn words(alloc: Global, line: Line<'_>) -> Result<Vec<Word>, Mistake> {
     Ok(list)
 }
 
+/// The bytes of pairs of hexadecimal digits, with blanks between some.
+pub fn hex_bytes(alloc: Global, line: Line<'_>, digits: &str) -> Result<Vec<u8>, Mistake> {
+    let mut bytes = Vec::new(alloc);
+    for group in digits.split_whitespace() {
+        match hex::decode(alloc, group) {
+            Ok(more) => bytes.extend_from_slice(&more)?,
+            Err(_) => return Err(Mistake::Wrong(line.number, Problem::BadHex)),
+        }
+    }
+    Ok(bytes)
+}
+
 /// Where a text with escapes stands.
 #[derive(Clone, Copy)]
 enum Escape {

@@ -5,11 +5,15 @@
 //! calls is lifted to whole sessions once, for every pair of machines.
 #![tactic(auto)]
 
+mod example;
+
 ghost use Rattle.std.specs.Prelude.{ℕ, List};
 ghost use Rattle.zw_session.specs.Sessions.{Machine, Call, session, AllFit};
 ghost use Rattle.zw_session.specs.Bounds.{StaysEnded, SessionsStayEnded, GoesInOrder};
 ghost use Rattle.zw_session.specs.Agrees.{AgreesOnCalls, Agrees, OnlySuchEnds};
 ghost use Rattle.zw_session.specs.Apart.{TellsApart};
+
+pub use example::idle_machines_agree;
 
 /// A machine whose calls stay ended, once they ended, under a larger bound.
 pub trait Bounded {
@@ -74,6 +78,3 @@ pub fn target_ends_as_source<S: Simulation>()
 pub fn machines_are_told_apart()
     ensures { TellsApart }
 {}
-
-#[cfg(test)]
-mod tests;

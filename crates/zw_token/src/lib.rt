@@ -23,6 +23,3 @@ pub use numbers::{is_decimal, number_value};
 pub use tables::{BUILTINS, KEYWORDS, SIGNS};
 pub use token::{TextError, Token, TokenKind};
 pub use values::{char_value, text_value};
-
-#[cfg(test)]
-mod tests;

@@ -12,6 +12,3 @@ pub use laws::{
     children_have_parents, children_in_order, descendants_are_next, growth_keeps_numbers,
     nodes_in_preorder, numbers_are_of_the_shape, subtrees_are_numbered_on, trees_grow_in_preorder,
 };
-
-#[cfg(test)]
-mod tests;

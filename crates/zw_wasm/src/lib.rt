@@ -24,6 +24,3 @@ pub use reduce::{
     HostCall, RunEnd, RunState, exported_function, exported_global, first_globals, run_function,
 };
 pub use writing::write;
-
-#[cfg(test)]
-mod tests;

@@ -11,8 +11,6 @@ mod execute;
 mod followed;
 mod frame;
 mod host;
-#[cfg(test)]
-mod tests;
 
 use crate::module::{ExportDef, Instr, Module, ValType};
 use crate::num::Num;

@@ -2,15 +2,13 @@
 //! and ends with the status that it answers.
 #![tactic(auto)]
 
-mod host;
-
-use host::{HostDiag, HostOut, HostSource, HostTree};
 use std::alloc::{AllocError, Global};
 use std::env;
 use std::process::ExitCode;
 use std::rt::Env;
 use zw_base::Word;
 use zw_drive::zig;
+use zw_host::{HostDiag, HostOut, HostSource, HostTree};
 
 /// The status for want of memory.
 const OUT_OF_MEMORY: u8 = 11;

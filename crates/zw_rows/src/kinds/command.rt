@@ -5,8 +5,9 @@ use crate::mistake::{Mistake, Problem};
 use crate::report::Report;
 use crate::words::{natural, smalls, word, words};
 use std::alloc::Global;
-use zw_base::{MemSink, MemSource, MemTree, Oom, Word};
+use zw_base::{Oom, Word};
 use zw_drive::zig;
+use zw_outside::{MemSink, MemSource, MemTree};
 
 /// A file of the tree.
 #[derive(Drop)]

@@ -6,10 +6,11 @@ use crate::report::Report;
 use crate::words::{small, smalls};
 use sqlite_items::Items;
 use std::alloc::Global;
-use zw_base::{MemSink, MemSource, MemTree, Oom, Refused, Word};
+use zw_base::{Oom, Refused, Word};
 use zw_drive::zig;
 use zw_form::read_form;
 use zw_lower::lower;
+use zw_outside::{MemSink, MemSource, MemTree};
 use zw_wasm::{
     Module, Num, RunEnd, RunState, exported_function, exported_global, first_globals, run_function,
     write,

@@ -123,3 +123,58 @@ pub fn check_stops(alloc: Global, fields: &[Field<'_>]) -> Result<Report, Mistak
     }
     Ok(report)
 }
+
+/// `nodes NAME` and a text. What is wanted is a line `PARENT NAME NUMBER CHILD..` for each node of its tree in preorder: the numbers of its
+/// parent and its children, the name and the number that it has, and `-` for none.
+pub fn check_nodes(
+    alloc: Global,
+    head: &Field<'_>,
+    fields: &[Field<'_>],
+) -> Result<Report, Mistake> {
+    let mut report = Report::new(alloc);
+    let came = match tree(alloc, head, &head.bytes)? {
+        Ok(ast) => shown_nodes(alloc, &ast)?,
+        Err(_) => return Err(head.wrong(Problem::Refused)),
+    };
+    let wanted = wanted_lines(alloc, fields)?;
+    report.compare("nodes", came.as_bytes(), wanted.as_bytes())?;
+    Ok(report)
+}
+
+/// The nodes in preorder, one in a line.
+fn shown_nodes(alloc: Global, ast: &Ast) -> Result<String, Oom> {
+    let mut text = String::new(alloc);
+    for n in 0..ast.count() {
+        match ast.parent(n) {
+            Some(parent) => write!(text, "{parent}")?,
+            None => text.push_str("-")?,
+        }
+        add_name(&mut text, ast.name(n))?;
+        match ast.number(n) {
+            Some(number) => write!(text, " {number}")?,
+            None => text.push_str(" -")?,
+        }
+        add_children(&mut text, ast.children(n))?;
+    }
+    Ok(text)
+}
+
+/// Adds a name, or `-` for none.
+fn add_name(text: &mut String, name: &[u8]) -> Result<(), Oom> {
+    text.push_str(" ")?;
+    if name.is_empty() {
+        text.push_str("-")?;
+    }
+    for byte in name {
+        text.push(char::from(*byte))?;
+    }
+    Ok(())
+}
+
+/// Adds the numbers of children, and ends the line.
+fn add_children(text: &mut String, children: &[u32]) -> Result<(), Oom> {
+    for child in children {
+        write!(text, " {child}")?;
+    }
+    text.push_str("\n")
+}

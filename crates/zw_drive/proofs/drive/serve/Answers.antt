@@ -1,6 +1,7 @@
 use Rattle.std.proofs.Common.{sym}
-use Rattle.zw_drive.proofs.ServeLemmas.{serves_usage, serves_build}
-use Rattle.zw_drive.proofs.BlameLemmas.{tree_blamed, out_blamed}
+use Rattle.zw_drive.proofs.ServeLemmas.{serves_usage, serves_build, serves_check}
+use Rattle.zw_drive.proofs.BuildLemmas.{named_checked}
+use Rattle.zw_drive.proofs.BlameLemmas.{tree_blamed, out_blamed, out_unwritten}
 use Rattle.zw_drive.proofs.ValidateLemmas.{serves_validate, tree_blamed_validate, out_blamed_validate}
 use Rattle.zw_drive.proofs.drive.serve.Goals as goal
 
@@ -8,17 +9,32 @@ pub returns-in-Unknown-clause-serves : goal.returns-in-Unknown-clause-serves
 returns-in-Unknown-clause-serves g c =
     serves_usage c.args.words.now _ _ _ _ _ (sym c.in-Unknown.ensures) (rw c.as_bytes.ensures.value at c.say.ensures.says)
 
+pub report-requires : goal.report-requires
+report-requires g c = named_checked c.in-Check.root.now _ _ c.check-checked.result c.check-checked.ensures.ends
+
+pub returns-in-Check-clause-serves : goal.returns-in-Check-clause-serves
+returns-in-Check-clause-serves g c =
+    serves_check c.args.words.now c.in-Check.root.now _ _ _ _ _ _ _ _ (sym c.in-Check.ensures) (c.check-checked.ensures.ends (g.O.Sink.taken c.args.out.now)) c.report.ensures.reports
+
+pub returns-in-Check-clause-tree_blamed : goal.returns-in-Check-clause-tree_blamed
+returns-in-Check-clause-tree_blamed g c =
+    tree_blamed _ _ c.check-checked.result (g.D.Sink.taken c.args.diag.now) (g.D.Sink.taken c.report.new.diag) c.report.result c.check-checked.ensures.cause c.report.ensures.reports
+
+pub returns-in-Check-clause-out_blamed : goal.returns-in-Check-clause-out_blamed
+returns-in-Check-clause-out_blamed g c =
+    out_unwritten _ c.check-checked.result (g.D.Sink.taken c.args.diag.now) (g.D.Sink.taken c.report.new.diag) c.report.result c.check-checked.ensures.unwritten c.report.ensures.reports
+
 pub returns-in-Build-clause-serves : goal.returns-in-Build-clause-serves
 returns-in-Build-clause-serves g c =
-    serves_build c.args.words.now _ _ _ _ _ _ _ _ _ c.build-built.ensures.ends (sym c.in-Build.ensures) c.report.ensures.reports
+    serves_build c.args.words.now c.in-Build.root.now _ _ _ _ _ _ _ _ (sym c.in-Build.ensures) c.build-built.ensures.ends c.report-in-Build.ensures.reports
 
 pub returns-in-Build-clause-tree_blamed : goal.returns-in-Build-clause-tree_blamed
 returns-in-Build-clause-tree_blamed g c =
-    tree_blamed _ _ _ _ _ _ _ _ (g.D.Sink.taken c.args.diag.now) (g.D.Sink.taken c.report.new.diag) c.report.result c.build-built.ensures.ends c.build-built.ensures.tree_cause c.report.ensures.reports
+    tree_blamed _ _ c.build-built.result (g.D.Sink.taken c.args.diag.now) (g.D.Sink.taken c.report-in-Build.new.diag) c.report-in-Build.result c.build-built.ensures.tree_cause c.report-in-Build.ensures.reports
 
 pub returns-in-Build-clause-out_blamed : goal.returns-in-Build-clause-out_blamed
 returns-in-Build-clause-out_blamed g c =
-    out_blamed _ _ _ _ _ _ _ _ (g.D.Sink.taken c.args.diag.now) (g.D.Sink.taken c.report.new.diag) c.report.result c.build-built.ensures.ends c.build-built.ensures.out_cause c.report.ensures.reports
+    out_blamed _ _ c.build-built.result (g.D.Sink.taken c.args.diag.now) (g.D.Sink.taken c.report-in-Build.new.diag) c.report-in-Build.result c.build-built.ensures.out_cause c.report-in-Build.ensures.reports
 
 pub returns-in-Validate-clause-serves : goal.returns-in-Validate-clause-serves
 returns-in-Validate-clause-serves g c =

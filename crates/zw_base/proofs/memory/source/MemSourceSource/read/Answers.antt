@@ -1,8 +1,0 @@
-use Rattle.zw_base.proofs.KnownLemmas.{read-content, read-end, slice_rest}
-use Rattle.zw_base.proofs.memory.source.MemSourceSource.read.Goals as goal
-
-pub returns-clause-content : goal.returns-clause-content
-returns-clause-content c =
-    let left = slice_rest c.deref.result.now c.args.self.now.bytes.items c.args.self.now.at c.deref.ensures.value in
-    let copy = c.copy_front-n.ensures in
-    (read-content _ _ _ _ _ _ left copy.count copy.copied, read-end _ _ _ _ _ _ left copy.count copy.copied)
