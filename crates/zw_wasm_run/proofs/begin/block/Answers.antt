@@ -1,0 +1,25 @@
+use Rattle.std.proofs.Common.{◌≡◌, ◌+◌, ◌≤◌, List, [], ◌∷◌, ◌++◌, drop, false, length, refl, ap, subst, ◌∙◌, arith, rules}
+use Rattle.std.specs.Prelude.{slice_index_or}
+use Rattle.std.specs.Option.{option_to_list}
+use Rattle.zw_wasm.specs.declared.module.Instr.{Instr}
+use Rattle.zw_wasm.specs.declared.module.Instr.TheVariants as instr
+use Rattle.zw_wasm_run.specs.declared.control.SequenceEnd.{SequenceEnd}
+use Rattle.zw_wasm_run.specs.declared.frame.Label.{Label}
+use Rattle.zw_wasm_run.specs.Control.{IsEnd}
+use Rattle.zw_wasm_run.proofs.AllFrames.{label_place}
+use Rattle.zw_wasm_run.proofs.Stepping.{block_steps, here_at, label_as}
+use Rattle.zw_wasm_run.proofs.begin.block.Goals as goal
+
+pub returns : goal.returns
+returns c m same =
+    let old = c.args.stacks.now in
+    let is = c.args.instrs.now in
+    let at = old.frame.at in
+    let none : SequenceEnd = record { next = 0; by_else = false } in
+    let e : SequenceEnd = slice_index_or c.args.ends.now (at + 1) none in
+    let inside : at + 1 ≤ length is = omega (arith, label_place at is (instr.Block c.args.ty) c.requires.here) in
+    let words : c.len.result ≡ length old.words.items = search rules in
+    block_steps m c.args.ty e old _
+    (subst (λ (x : List Instr). drop at x ≡ instr.Block c.args.ty ∷ drop (at + 1) x) same (here_at at is (instr.Block c.args.ty) c.requires.here))
+    (subst (λ x. IsEnd x (at + 1) e) same (c.requires.ends.each (at + 1) none (omega arith) inside))
+    refl refl (c.in_ok-push.ensures.items ∙ ap (λ (l : Label). old.labels.items ++ l ∷ []) (label_as c.results.result (length (option_to_list c.args.ty)) e.next e.next c.len.result (length old.words.items) c.results.ensures words)) refl

@@ -1,0 +1,12 @@
+pub mod Answers
+pub mod Memory
+pub mod Words
+pub mod Operands
+pub mod Control
+pub mod Frames
+pub mod Running
+pub mod Segments
+pub mod Machines
+pub mod Calls
+pub mod WorkedCalls
+pub mod WorkedSegments

@@ -1,0 +1,71 @@
+// Calls of functions that have a body, on the stacks of a call (4.4.5.10, 4.4.7.1).
+ghost use Rattle.std.specs.Prelude.{◌≡◌, ◌-◌, ◌≤◌, ◌++◌, length, option_copied, slice_get, OnOk, IfOk};
+ghost use Rattle.std.specs.Option.{option_to_list};
+ghost use Rattle.zw_wasm.specs.declared.module.Module.{Module};
+ghost use Rattle.zw_wasm.specs.Functions.{func_type, func_type_indices};
+ghost use Rattle.zw_wasm.specs.Reduction.{called};
+ghost use Rattle.zw_wasm_run.specs.Running.{ActsOnStacks};
+ghost use Rattle.zw_wasm_run.specs.Words.{zero_words};
+
+use crate::begin::results;
+use crate::effect::{Effect, FRAMES, NO_RULE};
+use crate::enter::push_locals;
+use crate::frame::Frame;
+use crate::stacks::Stacks;
+use sqlite_items::at;
+use std::alloc::AllocError;
+use zw_wasm::{FuncType, Module};
+
+/// How many frames may be active.
+const MAX_FRAMES: usize = 2_100;
+
+/// A call of a function that has a body takes its arguments from the operands. Its frame is the one that runs, unless too many
+/// are active.
+pub fn call(m: &Module, func: usize, stacks: &mut Stacks) -> Result<Effect, AllocError>
+    requires own { length m.now.imports ≤ func }
+    ensures { IfOk result (λ e. ActsOnStacks m.now (called m.now func (func_type m.now func)) stacks.old e stacks.new) }
+{
+    let Some(ty) = func_type(m, func) else {
+        return Ok(Effect::Traps(NO_RULE));
+    };
+    if MAX_FRAMES <= stacks.frames.len() + 1 {
+        return Ok(Effect::Traps(FRAMES));
+    }
+    let body = func - m.imports.len();
+    let Some(code) = at(m.codes.as_slice(), body) else {
+        return Ok(Effect::Traps(NO_RULE));
+    };
+    if stacks.words.len() < ty.params.len() {
+        return Ok(Effect::Traps(NO_RULE));
+    }
+    let locals = stacks.words.len() - ty.params.len();
+    push_locals(code.locals.as_slice(), &mut stacks.words)?;
+    stacks.frames.push(stacks.frame)?;
+    stacks.frame = Frame {
+        body,
+        arity: results(ty.result),
+        at: 0,
+        locals,
+        operands: stacks.words.len(),
+        labels: stacks.labels.len(),
+    };
+    Ok(Effect::Goes)
+}
+
+/// The type of a function, by its number among the imported ones and those with a body, where both are there.
+fn func_type(m: &Module, func: usize) -> Option<&FuncType>
+    ensures { option_copied result ≡ func_type m.now func }
+{
+    let number = type_number(m, func)?;
+    at(m.types.as_slice(), number as usize)
+}
+
+/// The number of a function's type.
+fn type_number(m: &Module, func: usize) -> Option<u32>
+    ensures { result ≡ slice_get (func_type_indices m.now) func }
+{
+    if func < m.imports.len() {
+        return Some(m.imports.as_slice()[func].ty);
+    }
+    at(m.funcs.as_slice(), func - m.imports.len()).copied()
+}
