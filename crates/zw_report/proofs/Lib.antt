@@ -1,0 +1,3 @@
+mod Plain
+mod LineWords
+mod Apart

@@ -1,0 +1,19 @@
+//! The lines that tell of a session: its calls, its host calls and its end. The crate knows nothing of how a session runs, nor
+//! of words of a command.
+#![tactic(auto)]
+
+mod arg;
+mod end;
+mod item;
+mod laws;
+mod lines;
+mod names;
+mod panics;
+
+pub use arg::Arg;
+pub use end::End;
+pub use item::ItemTy;
+pub use laws::{
+    ends_are_worked, lines_are_words, lines_are_worked, one_reading, panics_are_worked,
+};
+pub use lines::{call_line, end_line, event_line};
