@@ -3,12 +3,14 @@
 #![tactic(auto)]
 
 mod files;
+mod number;
 mod outside;
 mod pieces;
 mod stop;
 mod word;
 
 pub use files::{Answer, Handed, hand_over};
+pub use number::read_number;
 pub use outside::{Failed, LoadErr, PutErr, Sink, Source, Tree};
 pub use pieces::put_all;
 pub use std::alloc::AllocError as Oom;

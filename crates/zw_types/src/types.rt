@@ -1,5 +1,5 @@
 // The table of types. It is a plain list that is searched; no contract tells.
-ghost use Rattle.std.specs.Prelude.{◌≡◌, ◌↔◌, ◌<◌, ◌≤◌, ℕ, length, slice_get, All, Contains, IsTrue, IfOk, OnOk, OnErr, MatchOption, MatchBool, Some, None, List};
+ghost use Rattle.std.specs.Prelude.{◌≡◌, ◌↔◌, ◌<◌, ◌≤◌, ℕ, length, slice_get, All, Contains, IsTrue, IsOk, IfOk, OnOk, OnErr, MatchOption, MatchBool, Some, None, List};
 ghost use Rattle.zw_types.specs.TypeTrees as tree;
 ghost use Rattle.zw_types.specs.TypeTrees.{TypeTree};
 ghost use Rattle.zw_types.specs.Readings.{form_tree};
@@ -118,7 +118,7 @@ impl Types {
         Ok(TypeId(number as u32))
     }
 
-    /// Gives a container its fields. False exactly where the type is no container or has its fields already.
+    /// Gives a container its fields. False exactly where the type is no container or has its fields already. It takes no memory.
     pub fn resolve(&mut self, id: TypeId, shape: Shape) -> Result<bool, Oom>
         requires held { id.0 < length self.old.trees }
         requires known { All (λ k. k < length self.old.trees) (types_in_shape shape) }
@@ -126,7 +126,7 @@ impl Types {
         ensures done { IfOk result (λ done. MatchBool done
             (IsOpen self.old id.0 × (self.new ≡ resolved self.old id.0 (shape_tree self.old.trees shape)))
             ((¬ IsOpen self.old id.0) × (self.new ≡ self.old))) }
-        ensures err { OnErr result (self.new ≡ self.old) }
+        ensures always { IsOk result }
         ensures kept { Keeps self.old self.new }
     {
         if !self.is_open(id) {
