@@ -7,6 +7,7 @@ pub mod ListLemmas
 pub mod BoundLemmas
 pub mod SiteLemmas
 pub mod PlacingLemmas
+pub mod RootLemmas
 pub mod PlaceLemmas
 pub mod RuleLemmas
 pub mod PrimitiveLemmas
@@ -14,3 +15,4 @@ pub mod SetLemmas
 pub mod RepeatLemmas
 pub mod CheckLemmas
 pub mod MemberLemmas
+pub mod ToldAtNodes

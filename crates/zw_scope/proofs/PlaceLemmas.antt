@@ -6,16 +6,15 @@ use Rattle.std.specs.Option.{option_to_list}
 use Rattle.std.proofs.lemmas.Bool.Decides.{eqb_tells}
 use Rattle.std.proofs.lemmas.List.Folds.{list_any-append}
 use Rattle.std.proofs.lemmas.List.Concat.{flat_map-append}
-use Rattle.std.proofs.lemmas.Bool.{cases_eq}
+use Rattle.std.proofs.lemmas.Bool.{cases_eq, cases_lt}
 use Rattle.std.proofs.lemmas.List.{length-set, take_more, take_all}
 use Rattle.std.proofs.lemmas.Option.{slice_get_within, slice_get-get_or, get_or_from_slice_get}
-use Rattle.zw_tree.specs.Trees.{Forest, none, tree, count, trees}
+use Rattle.zw_tree.specs.Trees.{Forest, none, tree, count}
 use Rattle.zw_tree.specs.Numbering.{from, inside_first, below, children, parent}
 use Rattle.zw_tree.specs.declared.ast.Entry.{Entry}
 use Rattle.zw_tree.specs.declared.kind.NodeKind.{NodeKind}
 use Rattle.zw_tree.proofs.Descent.{child-parent, parent-child, parent-before}
-use Rattle.zw_tree.proofs.Nodes.{parent-inside}
-use Rattle.zw_scope.specs.Firsts.{kind_at, after, behind_first}
+use Rattle.zw_scope.specs.Firsts.{kind_at, after}
 use Rattle.zw_scope.specs.Lists.{Grows}
 use Rattle.zw_scope.specs.Placing.{AllPlaced, HasSite, ArePlaced, walked}
 use Rattle.zw_scope.specs.NameRules.{ends_in_block, is_mentioned, is_parameter_kind, mentioned, mentioned_by}
@@ -26,7 +25,8 @@ use Rattle.zw_scope.specs.Scopes.{Standing, all_standing, around_file, around_of
 use Rattle.zw_scope.specs.Sites.{IsSite, around_at}
 use Rattle.zw_scope.specs.declared.lists.Lists.{Lists}
 use Rattle.zw_scope.specs.declared.sites.Site.{Site}
-use Rattle.zw_scope.proofs.PlacingLemmas.{Covers, covers-all, covers-first, covers-child, placed, walked-next, length-standing}
+use Rattle.zw_scope.proofs.PlacingLemmas.{Covers, covers-all, covers-child, placed, walked-next, length-standing}
+use Rattle.zw_scope.proofs.RootLemmas.{ends-behind}
 use Rattle.zw_scope.proofs.SayLemmas.{IsChildAt, child-at, children-end}
 use Rattle.zw_scope.proofs.SiteLemmas.{site-kept}
 
@@ -175,7 +175,37 @@ placed-whole file n past lists sites are m t got = are m t got (by (parent-cases
     by (inl root) = inl root
     by (inr (p, e, less)) = let within = lt in inr (p, e, omega arith)
 
--- ---- the only root of a tree
+-- ---- the roots
+
+-- the roots before a number have their sites
+abbrev pub RootsPlaced : Lists → List Site → Forest Entry → ℕ → Type 0
+RootsPlaced lists sites file n = (m : ℕ) (s : Standing) → m < n → parent file m ≡ None → slice_get (all_standing file) m ≡ Some s → HasSite lists sites m s
+
+pub roots-child : (file : Forest Entry) (n p : ℕ) → parent file n ≡ Some p → (lists : Lists) (sites : List Site) → RootsPlaced lists sites file n → RootsPlaced lists sites file (n + 1)
+roots-child file n p up lists sites before m s lt root got = by (cases_lt m n)
+  where
+    by : (m < n) ⊎ (n ≤ m) → HasSite lists sites m s
+    by (inl less) = before m s less root got
+    by (inr past) =
+        let same : m ≡ n = omega arith in
+        let above = ap (parent file) same ∙ up in
+        absurd (cc)
+
+pub roots-next : (file : Forest Entry) (n : ℕ) → n < count file → (old new : Lists) → Grows old new → (sites : List Site) → length sites ≡ count file → (site : Site)
+    → ((s : Standing) → slice_get (all_standing file) n ≡ Some s → IsSite old site s)
+    → RootsPlaced old sites file n → RootsPlaced new (slice_set sites n site) file (n + 1)
+roots-next file n within old new grows sites sized site is before m s lt root got = by (cases_lt m n)
+  where
+    by : (m < n) ⊎ (n ≤ m) → HasSite new (slice_set sites n site) m s
+    by (inl less) = site-stays old new grows sites (slice_set sites n site) m s (set-other sites n m site (λ e. omega (arith, e, less))) (before m s less root got)
+    by (inr past) =
+        let same : m ≡ n = omega arith in
+        let there : slice_get (slice_set sites n site) m ≡ Some site = ap (slice_get (slice_set sites n site)) same ∙ set-same sites n site (omega (arith, within, sized)) in
+        record { site = site; there = there; is = site-kept old new grows site s (is s (ap (slice_get (all_standing file)) (sym same) ∙ got)) }
+
+pub roots-whole : (file : Forest Entry) (n : ℕ) → count file ≤ n → (lists : Lists) (sites : List Site) → RootsPlaced lists sites file n → ArePlaced lists sites file 0
+roots-whole file n past lists sites are m s got (inl root) = let lt = standing-within file m s got in are m s (omega arith) root got
+roots-whole file n past lists sites are m s got (inr (p, e, less)) = absurd (omega arith)
 
 got-replicated : {X : Type 0} (x : X) (n i : ℕ) → i < n → slice_get (replicate n x) i ≡ Some x
 got-replicated x zero i h = absurd (omega arith)
@@ -185,21 +215,6 @@ got-replicated x (suc n) (suc i) h = got-replicated x n i (omega arith)
 pub sized-replicated : {X : Type 0} (x : X) (n : ℕ) → length (replicate n x) ≡ n
 sized-replicated x zero = refl
 sized-replicated x (suc n) = ap suc (sized-replicated x n)
-
-one-root : (file : Forest Entry) → trees file ≡ 1 → (m : ℕ) → m < count file → parent file m ≡ None → (root : Entry) × (inside : Forest Entry) × (file ≡ tree root inside none) × (m ≡ 0)
-one-root none e m lt p = absurd (omega arith)
-one-root (tree root inside (tree r i b)) e m lt p = absurd (omega arith)
-one-root (tree root inside none) e zero lt p = (root, inside, refl, refl)
-one-root (tree root inside none) e (suc m) lt p = let q = parent-inside root inside none m (omega arith) in absurd (cc)
-
-pub root-placed : (file : Forest Entry) → trees file ≡ 1 → (lists : Lists) (site : Site) → ((root : Entry) (inside : Forest Entry) → IsSite lists site (stands around_file 0 root inside none)) → ArePlaced lists (replicate (count file) site) file 0
-root-placed file single lists site is m s got (inr (p, e, less)) = absurd (omega arith)
-root-placed file single lists site is m s got (inl root) =
-    let lt = standing-within file m s got in
-    let r = one-root file single m lt root in
-    let all = covers-first (all_standing file) around_file 0 r.0 r.1 none (subst (Covers (all_standing file) around_file 0) r.2 (covers-all file)) in
-    let same = some-same (slice_get (all_standing file) 0) (stands around_file 0 r.0 r.1 none) s all (ap (slice_get (all_standing file)) (sym r.3) ∙ got) in
-    record { site = site; there = got-replicated site (count file) m lt; is = subst (IsSite lists site) same (is r.0 r.1) }
 
 -- what is read of a node with its site
 pub read-is : (file : Forest Entry) (lists : Lists) (sites : List Site) → AllPlaced lists sites file → (n : ℕ) (s : Standing) → slice_get (all_standing file) n ≡ Some s → (site : Site) → slice_get sites n ≡ Some site → IsRead file lists site n s
@@ -240,16 +255,8 @@ body-behind file n p lt up s at is =
     let same : after r.0 (below file p) ≡ tree s.entry s.below s.behind = here.here ∙ sym here.from_here ∙ at in
     ends-after r.0 (below file p) s.entry s.below s.behind same ∙ ends-parameter s.entry s.below s.behind is
 
-from-first : (file : Forest Entry) → from file 0 ≡ file
-from-first none = refl
-from-first (tree root inside behind) = refl
-
-pub no-body-behind : (file : Forest Entry) (n : ℕ) → trees file ≡ 1 → n < count file → parent file n ≡ None → (s : Standing) → from file n ≡ tree s.entry s.below s.behind → false ≡ ends_in_block s.behind
-no-body-behind file n single lt up s at =
-    let r = one-root file single n lt up in
-    let first : from file 0 ≡ file = from-first file in
-    let whole : tree r.0 r.1 none ≡ tree s.entry s.below s.behind = sym r.2 ∙ sym first ∙ ap (from file) (sym r.3) ∙ at in
-    ap (λ f. ends_in_block (behind_first f)) whole
+pub root-body : (file : Forest Entry) (n : ℕ) → n < count file → parent file n ≡ None → (s : Standing) → from file n ≡ tree s.entry s.below s.behind → is_parameter_kind (kind_of s.entry) ≡ true → ends_in_block file ≡ ends_in_block s.behind
+root-body file n lt up s at is = ends-behind file n lt up ∙ ap ends_in_block at ∙ ends-parameter s.entry s.below s.behind is
 
 -- ---- marks
 

@@ -7,7 +7,7 @@ use Rattle.zw_tree.specs.Numbering.{from, first_root, inside_first, below, roots
 use Rattle.zw_tree.specs.declared.ast.Entry.{Entry}
 use Rattle.zw_tree.proofs.Nodes.{node_ind, from-inside, from-behind}
 use Rattle.zw_scope.specs.Firsts.{kind_at, text_at}
-use Rattle.zw_scope.specs.Scopes.{Around, Scope, Standing, around_file, nowhere, base_of, is_else, scope_of, seen, stands, binds, binds_local, bound, declared, first_bound, has_name, innermost, is_declaration, kind_of, labelled, name_in}
+use Rattle.zw_scope.specs.Scopes.{Around, Scope, Standing, base_of, is_else, scope_of, seen, stands, binds, binds_local, bound, declared, first_bound, has_name, innermost, is_declaration, kind_of, labelled, name_in}
 use Rattle.zw_scope.specs.Lists.{Grows}
 use Rattle.zw_scope.specs.Sites.{declared_by, IsPart, IsSite, Shows, Surrounds}
 use Rattle.zw_scope.specs.declared.lists.Lists.{Lists}
@@ -134,14 +134,6 @@ site-is lists a n root inside behind around part k names h kind p by = record {
   scope = subst (λ (j : NodeKind). Shows lists (record { names = names; labels = part.view.labels; innermost_loop = part.view.innermost_loop; in_function = part.view.in_function; defers = part.view.defers }) (scope_of a j behind)) (sym kind) (scope-is lists part a.siblings (base_of a k behind) names (is_else k) p by);
   siblings = h.siblings;
 }
-
--- around a root nothing is visible or open
-pub file-site : (lists : Lists) (root : Entry) → Shows lists (record { names = 0; labels = 0; innermost_loop = None; in_function = false; defers = 0 }) nowhere → Shows lists (record { names = 0; labels = 0; innermost_loop = None; in_function = false; defers = 0 }) (scope_of around_file (kind_of root) none)
-file-site lists root h = by (is_else (kind_of root)) refl
-  where
-    by : (t : Bool) → is_else (kind_of root) ≡ t → Shows lists (record { names = 0; labels = 0; innermost_loop = None; in_function = false; defers = 0 }) (if is_else (kind_of root) then nowhere else nowhere)
-    by true e = rw e h
-    by false e = rw e h
 
 -- what binds nothing for those behind it
 pub binds-none : (k : NodeKind) (n : ℕ) (inside : Forest Entry) (siblings : List Binding) → (k ≡ Const → ⊥) → (k ≡ Var → ⊥) → (k ≡ Capture → ⊥) → (k ≡ PointerCapture → ⊥) → (k ≡ Parameter → ⊥) → binds_local k n inside siblings ≡ []

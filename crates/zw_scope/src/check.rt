@@ -1,17 +1,18 @@
 // The names of a tree: which of its nodes are mentioned, and the first violation.
 ghost use Rattle.std.specs.Prelude.{◌≡◌, ◌<◌, ◌++◌, ℕ, List, IfErr, IfOk, OnOk, Some, slice_get};
-ghost use Rattle.zw_scope.specs.NameRules.{AreNamed, IsNameStop, Violation, violations, mentioned_by, mentioned, violations_at};
+ghost use Rattle.zw_scope.specs.NameRules.{AreNamed, IsNameStop, Violation, ends_in_block, violations, mentioned_by, mentioned, violations_at};
 ghost use Rattle.std.specs.Option.{option_to_list};
 ghost use Rattle.zw_scope.specs.Placing.{AllPlaced};
 ghost use Rattle.zw_scope.specs.Scopes.{Standing, all_standing};
 ghost use Rattle.zw_scope.specs.Telling.{AreMarks, IsFirstOf};
 ghost use Rattle.zw_tree.specs.Numbering.{first_root, from};
-ghost use Rattle.zw_tree.specs.Trees.{Forest, count, trees};
+ghost use Rattle.zw_tree.specs.Trees.{Forest, count};
 ghost use Rattle.zw_tree.specs.declared.ast.Entry.{Entry};
 ghost use Rattle.zw_base.specs.declared.stop.Refused.TheVariants as refused;
 ghost use Rattle.zw_base.specs.declared.stop.Stop.{Stop};
 ghost use Rattle.zw_base.specs.declared.stop.StopKind.TheVariants.{Error};
 
+use crate::nodes::roots_end_in_block;
 use crate::place::{Sites, placed, site_at};
 use crate::repeats::tell_duplicates;
 use crate::rules::{flow_at, label_at, named_at, shadow_at, unknown_at, unused_at};
@@ -62,12 +63,13 @@ fn check_node(
     ast: &Ast,
     sites: &Sites,
     marks: &[bool],
+    is_block_last: bool,
     n: u32,
     so_far: Option<Told>,
 ) -> Result<Option<Told>, Oom>
     requires placed { AllPlaced sites.now.lists sites.now.list.items ast.now }
     requires within { n < count ast.now }
-    requires single { trees ast.now ≡ 1 }
+    requires roots { is_block_last ≡ ends_in_block ast.now }
     ensures { IfOk result (λ first. (nodes : List ℕ) (s : Standing) (vs : List Violation) → AreMarks ast.now marks.now nodes → slice_get (all_standing ast.now) n ≡ Some s → IsFirstOf ast.now vs so_far → IsFirstOf ast.now (vs ++ violations_at nodes s) first) }
 {
     let Some(site) = site_at(sites, n) else {
@@ -76,22 +78,35 @@ fn check_node(
     let lists = &sites.lists;
     let shadows = tell(ast, so_far, 8, shadow_at(ast, lists, site, n));
     let unknowns = tell(ast, shadows, 9, unknown_at(ast, lists, site, n));
-    let unused = tell(ast, unknowns, 10, unused_at(ast, lists, site, marks, n));
+    let unused = tell(
+        ast,
+        unknowns,
+        10,
+        unused_at(ast, lists, site, marks, n, is_block_last),
+    );
     let duplicates = tell_duplicates(alloc, ast, n, unused)?;
     let labels = tell(ast, duplicates, 12, label_at(ast, lists, site, n));
     Ok(tell(ast, labels, 13, flow_at(ast, lists, site, n)))
 }
 
-/// The first violation of a tree.
+/// The first violation of a file.
 fn first_violation(alloc: Global, ast: &Ast) -> Result<Option<Told>, Oom>
-    requires { trees ast.now ≡ 1 }
     ensures { IfOk result (IsFirstOf ast.now (violations ast.now)) }
 {
     let sites = placed(alloc, ast)?;
     let marks = marks_of(alloc, ast, &sites)?;
+    let is_block_last = roots_end_in_block(ast);
     let mut first = None;
     for n in 0..ast.count() {
-        first = check_node(alloc, ast, &sites, marks.as_slice(), n, first)?;
+        first = check_node(
+            alloc,
+            ast,
+            &sites,
+            marks.as_slice(),
+            is_block_last,
+            n,
+            first,
+        )?;
     }
     Ok(first)
 }
@@ -108,13 +123,12 @@ fn stop_at(ast: &Ast, told: Told) -> Stop
     }
 }
 
-/// Checks the names, labels and jumps of a file, whose tree has one root (Zig Language Reference 0.13.0, Shadowing, Blocks, Labeled
-/// while, defer). It stops at the first violation by place, and at one place by number: error 8 where a local has the name of what
-/// is visible or a declaration that of a visible local, or either that of a primitive; 9 where an identifier names nothing visible; 10
-/// where a local is never mentioned; 11 where a form has a name twice; 12 where a label isn't open, or is open already; 13 where nothing
-/// takes a jump, or it leaves a deferred statement. Want of memory is told alone.
+/// Checks the names, labels and jumps of a file (Zig Language Reference 0.13.0, Shadowing, Blocks, Labeled while, defer). It stops
+/// at the first violation by place, and at one place by number: error 8 where a local has the name of what is visible or a
+/// declaration that of a visible local, or either that of a primitive; 9 where an identifier names nothing visible; 10 where a local
+/// is never mentioned; 11 where a form has a name twice; 12 where a label isn't open, or is open already; 13 where nothing takes a
+/// jump, or it leaves a deferred statement. Want of memory is told alone.
 pub fn check_names(alloc: Global, ast: &Ast) -> Result<(), Refused>
-    requires { trees ast.now ≡ 1 }
     ensures ok { OnOk result (AreNamed ast.now) }
     ensures stop { IfErr result (λ e. (stop : Stop) → e ≡ refused.Stop stop → IsNameStop ast.now stop) }
 {

@@ -7,7 +7,7 @@ ghost use Rattle.zw_scope.specs.Placing.{AllPlaced};
 ghost use Rattle.zw_scope.specs.Scopes.{Standing, all_standing, declared, innermost};
 ghost use Rattle.zw_scope.specs.declared.lists.Binding.{Binding};
 ghost use Rattle.zw_tree.specs.Numbering.{below};
-ghost use Rattle.zw_tree.specs.Trees.{Forest, count, trees};
+ghost use Rattle.zw_tree.specs.Trees.{Forest, count};
 ghost use Rattle.zw_tree.specs.declared.ast.Entry.{Entry};
 
 use crate::check::named;
@@ -65,9 +65,8 @@ fn named_at(members: &Members, n: u32) -> Option<Option<u32>>
 }
 
 impl Members {
-    /// The members of a tree with one root.
+    /// The members of a file.
     pub fn build(alloc: Global, ast: &Ast) -> Result<Members, Oom>
-        requires { trees ast.now ≡ 1 }
         ensures { IfOk result (AreMembers ast.now) }
     {
         let sites = placed(alloc, ast)?;

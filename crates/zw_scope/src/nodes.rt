@@ -77,6 +77,20 @@ pub(crate) fn label_in(ast: &Ast, n: u32) -> Option<u32>
     None
 }
 
+/// Whether the last root is a block.
+pub(crate) fn roots_end_in_block(ast: &Ast) -> bool
+    ensures { result ≡ ends_in_block ast.now }
+{
+    let mut ends = false;
+    for n in 0..ast.count() {
+        if ast.parent(n).is_some() {
+            continue;
+        }
+        ends = is_block(kind(ast, n));
+    }
+    ends
+}
+
 /// Whether the last child of a node is a block.
 pub(crate) fn ends_in_block(ast: &Ast, n: u32) -> bool
     ensures { result ≡ ends_in_block (below ast.now n) }

@@ -5,15 +5,15 @@ ghost use Rattle.zw_scope.specs.Lists.{Grows};
 ghost use Rattle.zw_scope.specs.Placing.{AllPlaced, ArePlaced, HasSite};
 ghost use Rattle.zw_scope.specs.Scopes.{Standing, all_standing, is_last};
 ghost use Rattle.zw_tree.specs.Numbering.{below, children, parent};
-ghost use Rattle.zw_tree.specs.Trees.{count, trees};
+ghost use Rattle.zw_tree.specs.Trees.{count};
 
 use crate::kinds::is_else;
 use crate::lists::{Lists, new_lists};
 use crate::nodes::{children, kind};
-use crate::sites::{Site, pass, root_site, site_of, surroundings_of};
+use crate::sites::{Site, outermost, pass, site_of, surroundings_of};
 use std::alloc::Global;
 use zw_base::Oom;
-use zw_tree::Ast;
+use zw_tree::{Ast, NodeKind};
 
 /// Where each node of a tree stands.
 #[derive(Drop)]
@@ -65,12 +65,28 @@ fn place_children(
     Ok(())
 }
 
-/// Places all nodes, of which the first is placed.
+/// Places the roots. No root is in a part that a form takes, so what stands behind it says nothing.
+fn place_roots(alloc: Global, ast: &Ast, lists: &mut Lists, sites: &mut [Site]) -> Result<(), Oom>
+    requires { length sites.old ≡ count ast.now }
+    ensures { OnOk result (ArePlaced lists.new sites.new ast.now 0) }
+{
+    let mut around = outermost();
+    for n in 0..ast.count() {
+        if ast.parent(n).is_some() {
+            continue;
+        }
+        sites[n as usize] = site_of(around, kind(ast, n), true);
+        around = pass(alloc, ast, lists, around, n)?;
+    }
+    Ok(())
+}
+
+/// Places all nodes: the roots, and then the children of each node.
 fn place_all(alloc: Global, ast: &Ast, lists: &mut Lists, sites: &mut [Site]) -> Result<(), Oom>
-    requires sized { length sites.old ≡ count ast.now }
-    requires placed { ArePlaced lists.old sites.old ast.now 0 }
+    requires { length sites.old ≡ count ast.now }
     ensures { OnOk result (AllPlaced lists.new sites.new ast.now) }
 {
+    place_roots(alloc, ast, lists, sites)?;
     for n in 0..ast.count() {
         place_children(alloc, ast, lists, sites, n)?;
     }
@@ -88,13 +104,13 @@ fn filled(alloc: Global, site: Site, count: u32) -> Result<Vec<Site>, Oom>
     Ok(list)
 }
 
-/// Where each node of a single tree stands.
+/// Where each node stands.
 pub(crate) fn placed(alloc: Global, ast: &Ast) -> Result<Sites, Oom>
-    requires { trees ast.now ≡ 1 }
     ensures { IfOk result (λ sites. AllPlaced sites.lists sites.list.items ast.now) }
 {
     let mut lists = new_lists(alloc);
-    let mut list = filled(alloc, root_site(), ast.count())?;
+    let first = site_of(outermost(), NodeKind::Root, true);
+    let mut list = filled(alloc, first, ast.count())?;
     place_all(alloc, ast, &mut lists, list.as_mut_slice())?;
     Ok(Sites { lists, list })
 }

@@ -8,7 +8,7 @@ ghost use Rattle.zw_scope.specs.Scopes.{Scope, Standing, binds, label_in};
 ghost use Rattle.zw_scope.specs.Sites.{Shows};
 ghost use Rattle.zw_scope.specs.Telling.{AreMarks, IsRead, tells};
 ghost use Rattle.zw_tree.specs.Numbering.{below, first_root, from};
-ghost use Rattle.zw_tree.specs.Trees.{count, tree, trees};
+ghost use Rattle.zw_tree.specs.Trees.{count, tree};
 ghost use Rattle.zw_tree.specs.declared.ast.Entry.{Entry};
 ghost use Rattle.zw_scope.specs.declared.lists.Lists.{Lists};
 
@@ -140,21 +140,21 @@ pub(crate) fn unknown_at(ast: &Ast, lists: &Lists, site: Site, n: u32) -> Option
 }
 
 /// Whether the last of the parts that a parameter stands among is a block.
-fn has_body(ast: &Ast, n: u32) -> bool
+fn has_body(ast: &Ast, n: u32, is_block_last: bool) -> bool
     requires within { n < count ast.now }
-    requires single { trees ast.now ≡ 1 }
+    requires roots { is_block_last ≡ ends_in_block ast.now }
     ensures { (s : Standing) → from ast.now n ≡ tree s.entry s.below s.behind → is_parameter s ≡ true → result ≡ ends_in_block s.behind }
 {
     match ast.parent(n) {
         Some(parent) => ends_in_block(ast, parent),
-        None => false,
+        None => is_block_last,
     }
 }
 
 /// Whether a node is a local that has to be mentioned: a parameter only where its function has a body.
-fn is_to_be_mentioned(ast: &Ast, site: Site, n: u32) -> bool
+fn is_to_be_mentioned(ast: &Ast, site: Site, n: u32, is_block_last: bool) -> bool
     requires within { n < count ast.now }
-    requires single { trees ast.now ≡ 1 }
+    requires roots { is_block_last ≡ ends_in_block ast.now }
     ensures { (lists : Lists) (s : Standing) → IsRead ast.now lists site n s → result ≡ is_to_be_mentioned s }
 {
     if !is_local(ast, site, n) {
@@ -163,7 +163,7 @@ fn is_to_be_mentioned(ast: &Ast, site: Site, n: u32) -> bool
     if !is_parameter(kind(ast, n)) {
         return true;
     }
-    has_body(ast, n)
+    has_body(ast, n, is_block_last)
 }
 
 /// Whether a node is marked.
@@ -174,13 +174,20 @@ fn is_marked(marks: &[bool], n: u32) -> bool
 }
 
 /// The name of a local that has to be mentioned and isn't.
-pub(crate) fn unused_at(ast: &Ast, lists: &Lists, site: Site, marks: &[bool], n: u32) -> Option<u32>
+pub(crate) fn unused_at(
+    ast: &Ast,
+    lists: &Lists,
+    site: Site,
+    marks: &[bool],
+    n: u32,
+    is_block_last: bool,
+) -> Option<u32>
     requires within { n < count ast.now }
-    requires single { trees ast.now ≡ 1 }
+    requires roots { is_block_last ≡ ends_in_block ast.now }
     ensures there { IfSome result (λ c. c < count ast.now) }
     ensures told { (nodes : List ℕ) (s : Standing) → AreMarks ast.now marks.now nodes → IsRead ast.now lists.now site n s → unused nodes s ≡ tells ast.now 10 result }
 {
-    if !is_to_be_mentioned(ast, site, n) {
+    if !is_to_be_mentioned(ast, site, n, is_block_last) {
         return None;
     }
     let name = name_in(ast, n)?;

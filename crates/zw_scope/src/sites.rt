@@ -5,7 +5,7 @@ ghost use Rattle.zw_scope.specs.Lists.{Grows, IsBindings};
 ghost use Rattle.zw_scope.specs.Scopes.{Around, Scope, around_file, base_of, behind_child, binds_local, bound, declared, first_bound, in_body, in_container, in_defer, in_loop, is_last, kind_of, label_in, labelled, name_in, stands, taken_scope};
 ghost use Rattle.zw_scope.specs.Sites.{IsPart, IsSite, Shows, Surrounds, around_at, declared_by, with_siblings};
 ghost use Rattle.zw_tree.specs.Numbering.{below, from};
-ghost use Rattle.zw_tree.specs.Trees.{Forest, none};
+ghost use Rattle.zw_tree.specs.Trees.{Forest};
 ghost use Rattle.zw_tree.specs.declared.ast.Entry.{Entry};
 ghost use Rattle.zw_scope.specs.declared.lists.Binding.{Binding};
 ghost use Rattle.zw_scope.specs.declared.lists.Lists.{Lists};
@@ -380,19 +380,21 @@ pub(crate) fn pass(
     bind_local(alloc, ast, lists, around, n)
 }
 
-/// Where the only root of a tree stands.
-pub(crate) fn root_site() -> Site
-    ensures { (lists : Lists) (root : Entry) (inside : Forest Entry) → IsSite lists result (stands around_file 0 root inside none) }
+/// What surrounds the roots of a file, before the first of them.
+pub(crate) fn outermost() -> Surroundings
+    ensures { (lists : Lists) → Surrounds lists result around_file }
 {
-    Site {
+    let view = View {
+        names: 0,
+        labels: 0,
+        innermost_loop: None,
+        in_function: false,
+        defers: 0,
+    };
+    Surroundings {
         parent: None,
-        view: View {
-            names: 0,
-            labels: 0,
-            innermost_loop: None,
-            in_function: false,
-            defers: 0,
-        },
+        plain: Part { view, seen: 0 },
+        taken: Part { view, seen: 0 },
         siblings: 0,
     }
 }
