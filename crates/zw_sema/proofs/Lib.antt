@@ -5,3 +5,16 @@ pub mod ScalarLemmas
 pub mod BuiltinLemmas
 pub mod DeclarationLemmas
 pub mod KnownLemmas
+pub mod MovedValues
+pub mod MovedMeanings
+pub mod MovedTrees
+pub mod MovedRules
+pub mod MovedBuiltins
+pub mod MovedDeclarations
+pub mod MovedParts
+pub mod MovedWalk
+pub mod MovedFiles
+pub mod MovedNumbers
+pub mod MovedMembers
+pub mod PlainPrograms
+pub mod SameNumbers

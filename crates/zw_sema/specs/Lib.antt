@@ -13,3 +13,5 @@ pub mod Known
 pub mod WorkedTypes
 pub mod ProgramsOf
 pub mod WorkedUnreached
+pub mod Exchanged
+pub mod WorkedExchanged

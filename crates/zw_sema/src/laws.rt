@@ -1,9 +1,11 @@
 // What holds of the definitions themselves.
+ghost use Rattle.zw_sema.specs.Exchanged.{MembersPart, UnreachedGrowsSilently, UnreachedKeepsPrograms, UnreachedKeepsReached, UnreachedMayGrow};
 ghost use Rattle.zw_sema.specs.Known.{KnownValuesHaveTheirTypes};
 ghost use Rattle.zw_sema.specs.Laws.{StaysUnderLargerBounds};
 ghost use Rattle.zw_sema.specs.ProgramsOf.{ProgramsMeanTheirFiles};
 ghost use Rattle.zw_sema.specs.Unreached.{UnreachedIsFree, UnreachedIsSilent};
 ghost use Rattle.zw_sema.specs.WorkedDeclarations.{WorkedConstants};
+ghost use Rattle.zw_sema.specs.WorkedExchanged.{WorkedExchanged};
 ghost use Rattle.zw_sema.specs.WorkedExpressions.{WorkedIntegers};
 ghost use Rattle.zw_sema.specs.WorkedForms.{WorkedFunctions, WorkedOperators};
 ghost use Rattle.zw_sema.specs.WorkedHost.{WorkedHost, WorkedTruths};
@@ -38,6 +40,17 @@ pub fn unreached_declarations_are_free()
     ensures analyses { UnreachedIsFree }
     ensures sessions { UnreachedIsSilent }
     ensures worked { WorkedUnreached }
+{}
+
+/// Where a declaration wasn't reached, it may be any other one of its name, of more nodes or fewer: all nodes behind it have other numbers then, and
+/// neither the first stop nor a session changes, and the programs of the file stay.
+pub fn unreached_declarations_may_grow()
+    ensures parts { MembersPart }
+    ensures told { UnreachedMayGrow }
+    ensures sessions { UnreachedGrowsSilently }
+    ensures programs { UnreachedKeepsPrograms }
+    ensures reached { UnreachedKeepsReached }
+    ensures worked { WorkedExchanged }
 {}
 
 /// A file's functions as a program by numbers, and the weight of frames, worked out by hand.

@@ -9,7 +9,7 @@ use Rattle.zw_sema.specs.WorkedUnreached.{wrong, unknown}
 use Rattle.zw_session.specs.Sessions.{session}
 use Rattle.zw_typed.specs.Exports.{exports_machine}
 use Rattle.zw_sema.specs.Files.{Analysis, exports_in}
-use Rattle.zw_sema.proofs.UnreachedLemmas.{file-follows}
+use Rattle.zw_sema.proofs.SameNumbers.{file-follows}
 use Rattle.zw_sema.proofs.laws.unreached_declarations_are_free.Goals as goal
 
 pub returns-clause-analyses : goal.returns-clause-analyses
