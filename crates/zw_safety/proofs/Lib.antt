@@ -1,3 +1,4 @@
 pub mod Locals
 pub mod CheckedTypes
 pub mod WideRight
+pub mod ServedTests

@@ -1,17 +1,22 @@
 -- The code of each operator that is served where a type has more than 32 bits is right wherever it stands; and so is the code on
 -- types of any width.
-use Rattle.std.proofs.Common.{◌≡◌, ◌⊎◌, ℕ, ◌+ℤ◌, ◌-ℤ◌, ◌*ℤ◌, Bool, true, false, not, inl, inr, refl, sym, ap, ◌∙◌}
+use Rattle.std.proofs.Common.{◌≡◌, ◌⊎◌, ℕ, ◌%◌, ◌+ℤ◌, ◌-ℤ◌, ◌*ℤ◌, Bool, true, false, not, inl, inr, refl, sym, ap, ◌∙◌}
 use Rattle.std.specs.Prelude.{◌&&◌, drop, nat_eq, if◌then◌else◌}
 use Rattle.std.specs.List.{AllByRecursion}
 use Rattle.std.proofs.lemmas.Bool.{or_left, or_right, and_parts, and_from, leb-true, le-leb, both_ways}
+use Rattle.zw_num.specs.Arithmetic.{width}
 use Rattle.zw_num.specs.declared.int_ty.IntTy.{IntTy}
 use Rattle.zw_num.specs.declared.int_ty.IntTy.TheVariants.{Sized, Comptime}
-use Rattle.zw_num.specs.declared.op.TheConstants.{ADD, SUB, MUL, ADD_WRAP, SUB_WRAP, MUL_WRAP, SHL_SAT}
+use Rattle.zw_num.specs.declared.op.TheConstants.{ADD, SUB, MUL, ADD_WRAP, SUB_WRAP, MUL_WRAP, BYTE_SWAP}
 use Rattle.zw_safety_narrow.proofs.NarrowRuns.{addition, subtraction, multiplication}
 use Rattle.zw_safety_narrow.proofs.ServedRight.{by_test, each_among, served_right}
 use Rattle.zw_safety_wide.proofs.WideBitRight.{AreStored, wide_and-right, wide_or-right, wide_xor-right, wide_equal-right, wide_not_equal-right, wide_less-right, wide_less_or_equal-right, wide_greater-right, wide_greater_or_equal-right, wide_min-right, wide_max-right, wide_shl-right, wide_shr-right, wide_neg-right, wide_not-right, wide_neg_wrap-right, wide_as-right, wide_from_bool-right, wide_truncate-right, wide_bit_cast-right}
 use Rattle.zw_safety_wide.proofs.WideCastRight.{wide_cast-right, wide_abs-right, wide_clz-right, wide_ctz-right, wide_pop_count-right}
-use Rattle.zw_safety_wide.proofs.WideShareRight.{wide_div-right, wide_rem-right, wide_div_trunc-right, wide_rem_trunc-right, wide_div_floor-right, wide_mod-right}
+use Rattle.zw_safety_wide.proofs.WideReversalRight.{wide_byte_swap-right, wide_bit_reverse-right}
+use Rattle.zw_safety_wide.proofs.WideSaturatingRight.{wide_add_sat-right, wide_sub_sat-right, wide_mul_sat-right}
+use Rattle.zw_safety_wide.proofs.WideShareRight.{wide_div-right, wide_rem-right, wide_div_trunc-right, wide_rem_trunc-right, wide_div_floor-right, wide_mod-right, wide_div_exact-right}
+use Rattle.zw_safety_wide.proofs.WideShiftRight.{wide_shl_exact-right, wide_shr_exact-right, wide_shl_sat-right}
+use Rattle.zw_safety_wide.proofs.WideTruthRight.{wide_is_false-right}
 use Rattle.zw_safety_wide.proofs.WideClosed.{wide_wrapped-closed, wide_sum-closed, wide_difference-closed, wide_product-closed}
 use Rattle.zw_safety_wide.proofs.WideProductRuns.{wide_product-ends}
 use Rattle.zw_safety_wide.proofs.WideRuns.{wide_wrapped-ends}
@@ -19,9 +24,9 @@ use Rattle.zw_safety_wide.proofs.WideSums.{wide_sum-ends, wide_difference-ends}
 use Rattle.zw_safety_wide.proofs.WideTypes.{takes-wide_wrapped, takes-wide_sum, takes-wide_difference, takes-wide_product}
 use Rattle.zw_safety_narrow.specs.OperatorCode.{operator_code}
 use Rattle.zw_safety_narrow.specs.Operators.{IsNarrow, IsStored, IsServed, IsRight, IsRightOnOne, IsRightCode, is_among, operators_of_two, operators_of_one, fills_word, fill_words, writes_locals}
-use Rattle.zw_safety.specs.StoredCode.{wide_code, stored_code}
+use Rattle.zw_safety.specs.StoredCode.{wide_code_of_shares, wide_code_of_bounds, wide_code, stored_code}
 use Rattle.zw_safety_wide.specs.WideCode.{wide_wrapped_code, wide_sum_code, wide_difference_code, wide_product_code}
-use Rattle.zw_safety.specs.WideOperators.{IsServedWide, are_shares, wide_shares, wide_of_two, wide_of_one, is_wide_operator, last_type, goes_wide}
+use Rattle.zw_safety.specs.WideOperators.{IsServedWide, MayServe, wide_of_two, wide_of_one, is_wide_operator, last_type, goes_wide}
 use Rattle.zw_wasm.specs.declared.module.BinaryOperator.TheVariants.{Add, Sub, Mul}
 
 sum-right : (left right to : IntTy) (s : ℕ) → AreStored left right to → IsRight ADD left right to s (wide_sum_code left right to s)
@@ -69,51 +74,52 @@ product_wrap-right left right to s h = record {
 
 -- each operator of two operands that is served so, where an i64 is among operands and result
 pub wide_right : (op s : ℕ) (left right to : IntTy) → IsServedWide op left right to → is_among op wide_of_two ≡ true → fill_words left right to ≡ false → IsRight op left right to s (wide_code op left right to s)
+unfolding wide_code_of_shares wide_code_of_bounds
 wide_right op s left right to served among wide =
-    let P : ℕ → Type 0 = λ n. (is_among n wide_shares ≡ true → are_shares left right to ≡ true) → IsRight n left right to s (wide_code n left right to s) in
+    let P : ℕ → Type 0 = λ n. MayServe n left right to → IsRight n left right to s (wide_code n left right to s) in
     let h : AreStored left right to = record { left_stored = served.left_stored; right_stored = served.right_stored among; to_stored = served.to_stored } in
-    let quotients : AllByRecursion P (drop 19 wide_of_two) = (λ u. wide_div-right left right to s h (u refl), (λ u. wide_rem-right left right to s h (u refl), (λ u. wide_div_trunc-right left right to s h (u refl), (λ u. wide_rem_trunc-right left right to s h (u refl), (λ u. wide_div_floor-right left right to s h (u refl), (λ u. wide_mod-right left right to s h (u refl), tt)))))) in
+    let exacts : AllByRecursion P (drop 29 wide_of_two) = (λ u. wide_shl_exact-right left right to s h (u.kept refl), (λ u. wide_shr_exact-right left right to s h, (λ u. wide_shl_sat-right left right to s h (u.kept refl) (u.right_unsigned refl), tt))) in
+    let bounds : AllByRecursion P (drop 25 wide_of_two) = (λ u. wide_add_sat-right left right to s h, (λ u. wide_sub_sat-right left right to s h, (λ u. wide_mul_sat-right left right to s h, (λ u. wide_div_exact-right left right to s h (u.shares refl), exacts)))) in
+    let rounded : AllByRecursion P (drop 23 wide_of_two) = (λ u. wide_div_floor-right left right to s h (u.shares refl), (λ u. wide_mod-right left right to s h (u.shares refl), bounds)) in
+    let quotients : AllByRecursion P (drop 19 wide_of_two) = (λ u. wide_div-right left right to s h (u.shares refl), (λ u. wide_rem-right left right to s h (u.shares refl), (λ u. wide_div_trunc-right left right to s h (u.shares refl), (λ u. wide_rem_trunc-right left right to s h (u.shares refl), rounded)))) in
     let shifts : AllByRecursion P (drop 15 wide_of_two) = (λ u. wide_min-right left right to s h, (λ u. wide_max-right left right to s h, (λ u. wide_shl-right left right to s h, (λ u. wide_shr-right left right to s h, quotients)))) in
     let more_orders : AllByRecursion P (drop 12 wide_of_two) = (λ u. wide_less_or_equal-right left right to s h, (λ u. wide_greater-right left right to s h, (λ u. wide_greater_or_equal-right left right to s h, shifts))) in
     let orders : AllByRecursion P (drop 9 wide_of_two) = (λ u. wide_equal-right left right to s h, (λ u. wide_not_equal-right left right to s h, (λ u. wide_less-right left right to s h, more_orders))) in
     let bits : AllByRecursion P (drop 6 wide_of_two) = (λ u. wide_and-right left right to s h, (λ u. wide_or-right left right to s h, (λ u. wide_xor-right left right to s h, orders))) in
     let wraps : AllByRecursion P (drop 3 wide_of_two) = (λ u. sum_wrap-right left right to s h (ap not wide), (λ u. difference_wrap-right left right to s h, (λ u. product_wrap-right left right to s h, bits))) in
     let sums : AllByRecursion P (drop 0 wide_of_two) = (λ u. sum-right left right to s h, (λ u. difference-right left right to s h, (λ u. product-right left right to s h, wraps))) in
-    each_among P wide_of_two sums op among served.shares
+    each_among P wide_of_two sums op among served.types
 
 -- and each one of one operand
 pub wide_right_on_one : (op s : ℕ) (left right to : IntTy) → IsServedWide op left right to → is_among op wide_of_one ≡ true → IsRightOnOne op left to s (wide_code op left right to s)
+unfolding wide_code_of_shares wide_code_of_bounds
 wide_right_on_one op s left right to served among =
-    let P : ℕ → Type 0 = λ n. IsRightOnOne n left to s (wide_code n left right to s) in
+    let P : ℕ → Type 0 = λ n. (nat_eq n BYTE_SWAP ≡ true → width left % 8 ≡ 0) → IsRightOnOne n left to s (wide_code n left right to s) in
     let h = served.left_stored in
     let k = served.to_stored in
-    let counts : AllByRecursion P (drop 7 wide_of_one) = (wide_cast-right left to s h k, (wide_abs-right left to s h k, (wide_clz-right left to s h k, (wide_ctz-right left to s h k, (wide_pop_count-right left to s h k, tt))))) in
-    let casts : AllByRecursion P (drop 3 wide_of_one) = (wide_as-right left to s h k, (wide_from_bool-right left to s h k, (wide_truncate-right left to s h k, (wide_bit_cast-right left to s h k, counts)))) in
-    let signs : AllByRecursion P (drop 0 wide_of_one) = (wide_neg-right left to s h k, (wide_not-right left to s h k, (wide_neg_wrap-right left to s h k, casts))) in
-    each_among P wide_of_one signs op among
+    let reversals : AllByRecursion P (drop 12 wide_of_one) = (λ u. wide_byte_swap-right left to s h k (u refl), (λ u. wide_bit_reverse-right left to s h k, (λ u. wide_is_false-right left to s h k, tt))) in
+    let counts : AllByRecursion P (drop 9 wide_of_one) = (λ u. wide_clz-right left to s h k, (λ u. wide_ctz-right left to s h k, (λ u. wide_pop_count-right left to s h k, reversals))) in
+    let distances : AllByRecursion P (drop 7 wide_of_one) = (λ u. wide_cast-right left to s h k, (λ u. wide_abs-right left to s h k, counts)) in
+    let casts : AllByRecursion P (drop 3 wide_of_one) = (λ u. wide_as-right left to s h k, (λ u. wide_from_bool-right left to s h k, (λ u. wide_truncate-right left to s h k, (λ u. wide_bit_cast-right left to s h k, distances)))) in
+    let signs : AllByRecursion P (drop 0 wide_of_one) = (λ u. wide_neg-right left to s h k, (λ u. wide_not-right left to s h k, (λ u. wide_neg_wrap-right left to s h k, casts))) in
+    each_among P wide_of_one signs op among served.whole_bytes
 
 -- ---- the lists of operators
 
-among_two : (op : ℕ) → is_among op wide_of_two ≡ true → is_among op operators_of_two ≡ true
-among_two op e = each_among (λ n. is_among n operators_of_two ≡ true) wide_of_two (refl, (refl, (refl, (refl, (refl, (refl, (refl, (refl, (refl, (refl, (refl, (refl, (refl, (refl, (refl, (refl, (refl, (refl, (refl, (refl, (refl, (refl, (refl, (refl, (refl, tt))))))))))))))))))))))))) op e
+pub among_two : (op : ℕ) → is_among op wide_of_two ≡ true → is_among op operators_of_two ≡ true
+among_two op e = each_among (λ n. is_among n operators_of_two ≡ true) wide_of_two (refl, (refl, (refl, (refl, (refl, (refl, (refl, (refl, (refl, (refl, (refl, (refl, (refl, (refl, (refl, (refl, (refl, (refl, (refl, (refl, (refl, (refl, (refl, (refl, (refl, (refl, (refl, (refl, (refl, (refl, (refl, (refl, tt)))))))))))))))))))))))))))))))) op e
 
 never_one : (op : ℕ) → is_among op wide_of_two ≡ true → is_among op operators_of_one ≡ false
-never_one op e = each_among (λ n. is_among n operators_of_one ≡ false) wide_of_two (refl, (refl, (refl, (refl, (refl, (refl, (refl, (refl, (refl, (refl, (refl, (refl, (refl, (refl, (refl, (refl, (refl, (refl, (refl, (refl, (refl, (refl, (refl, (refl, (refl, tt))))))))))))))))))))))))) op e
+never_one op e = each_among (λ n. is_among n operators_of_one ≡ false) wide_of_two (refl, (refl, (refl, (refl, (refl, (refl, (refl, (refl, (refl, (refl, (refl, (refl, (refl, (refl, (refl, (refl, (refl, (refl, (refl, (refl, (refl, (refl, (refl, (refl, (refl, (refl, (refl, (refl, (refl, (refl, (refl, (refl, tt)))))))))))))))))))))))))))))))) op e
 
 never_wide_one : (op : ℕ) → is_among op wide_of_two ≡ true → is_among op wide_of_one ≡ false
-never_wide_one op e = each_among (λ n. is_among n wide_of_one ≡ false) wide_of_two (refl, (refl, (refl, (refl, (refl, (refl, (refl, (refl, (refl, (refl, (refl, (refl, (refl, (refl, (refl, (refl, (refl, (refl, (refl, (refl, (refl, (refl, (refl, (refl, (refl, tt))))))))))))))))))))))))) op e
+never_wide_one op e = each_among (λ n. is_among n wide_of_one ≡ false) wide_of_two (refl, (refl, (refl, (refl, (refl, (refl, (refl, (refl, (refl, (refl, (refl, (refl, (refl, (refl, (refl, (refl, (refl, (refl, (refl, (refl, (refl, (refl, (refl, (refl, (refl, (refl, (refl, (refl, (refl, (refl, (refl, (refl, tt)))))))))))))))))))))))))))))))) op e
 
-among_one : (op : ℕ) → is_among op wide_of_one ≡ true → is_among op operators_of_one ≡ true
-among_one op e = each_among (λ n. is_among n operators_of_one ≡ true) wide_of_one (refl, (refl, (refl, (refl, (refl, (refl, (refl, (refl, (refl, (refl, (refl, (refl, tt)))))))))))) op e
+pub among_one : (op : ℕ) → is_among op wide_of_one ≡ true → is_among op operators_of_one ≡ true
+among_one op e = each_among (λ n. is_among n operators_of_one ≡ true) wide_of_one (refl, (refl, (refl, (refl, (refl, (refl, (refl, (refl, (refl, (refl, (refl, (refl, (refl, (refl, (refl, tt))))))))))))))) op e
 
 never_two : (op : ℕ) → is_among op wide_of_one ≡ true → is_among op operators_of_two ≡ false
-never_two op e = each_among (λ n. is_among n operators_of_two ≡ false) wide_of_one (refl, (refl, (refl, (refl, (refl, (refl, (refl, (refl, (refl, (refl, (refl, (refl, tt)))))))))))) op e
-
-no_shift_of_two : (op : ℕ) → is_among op wide_of_two ≡ true → nat_eq op SHL_SAT ≡ false
-no_shift_of_two op e = each_among (λ n. nat_eq n SHL_SAT ≡ false) wide_of_two (refl, (refl, (refl, (refl, (refl, (refl, (refl, (refl, (refl, (refl, (refl, (refl, (refl, (refl, (refl, (refl, (refl, (refl, (refl, (refl, (refl, (refl, (refl, (refl, (refl, tt))))))))))))))))))))))))) op e
-
-no_shift_of_one : (op : ℕ) → is_among op wide_of_one ≡ true → nat_eq op SHL_SAT ≡ false
-no_shift_of_one op e = each_among (λ n. nat_eq n SHL_SAT ≡ false) wide_of_one (refl, (refl, (refl, (refl, (refl, (refl, (refl, (refl, (refl, (refl, (refl, (refl, tt)))))))))))) op e
+never_two op e = each_among (λ n. is_among n operators_of_two ≡ false) wide_of_one (refl, (refl, (refl, (refl, (refl, (refl, (refl, (refl, (refl, (refl, (refl, (refl, (refl, (refl, (refl, tt))))))))))))))) op e
 
 -- ---- on types of any width
 
@@ -168,7 +174,8 @@ served-two op left right to h two e =
       left_narrow = narrow-is left h.left_stored outer.0;
       right_narrow = λ among. narrow-is right (h.right_stored two) inner.0;
       to_narrow = narrow-is to h.to_stored inner.1;
-      right_unsigned = λ shift. absurd (both_ways (nat_eq op SHL_SAT) (no_shift_of_two op two) shift);
+      right_unsigned = h.types.right_unsigned;
+      whole_bytes = h.whole_bytes;
     }
 
 served-one : (op : ℕ) (left right to : IntTy) → IsServedWide op left right to → is_among op wide_of_one ≡ true → fill_words left left to ≡ true → IsServed op left right to
@@ -180,7 +187,8 @@ served-one op left right to h one e =
       left_narrow = narrow-is left h.left_stored outer.0;
       right_narrow = λ among. absurd (both_ways (is_among op operators_of_two) (never_two op one) among);
       to_narrow = narrow-is to h.to_stored inner.1;
-      right_unsigned = λ shift. absurd (both_ways (nat_eq op SHL_SAT) (no_shift_of_one op one) shift);
+      right_unsigned = h.types.right_unsigned;
+      whole_bytes = h.whole_bytes;
     }
 
 served-narrow : (op : ℕ) (left right to : IntTy) → IsServedWide op left right to → goes_wide op left right to ≡ false → IsServed op left right to

@@ -2,3 +2,4 @@ pub mod Code
 pub mod Checked
 pub mod WideOperators
 pub mod StoredCode
+pub mod Served

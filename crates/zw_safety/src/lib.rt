@@ -4,6 +4,8 @@
 
 mod laws;
 mod operators;
+mod served;
 
 pub use laws::checked_code_is_right;
 pub use operators::checked;
+pub use served::is_served;

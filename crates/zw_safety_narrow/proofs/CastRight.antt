@@ -67,7 +67,7 @@ takes-cast x Comptime Comptime s ts h state = takes-none x (I32 ∷ ts)
 pub takes-fitted : (x : Context) (to : IntTy) (ts : List ValType) → Takes x (fitted to) (I32 ∷ ts) (I32 ∷ ts)
 takes-fitted x to ts = takes-if_narrower (nat_lt (width to) 32) x to ts
 
-takes-truncated : (x : Context) (from to : IntTy) (ts : List ValType) → Takes x (truncated_code from to) (I32 ∷ ts) (I32 ∷ ts)
+pub takes-truncated : (x : Context) (from to : IntTy) (ts : List ValType) → Takes x (truncated_code from to) (I32 ∷ ts) (I32 ∷ ts)
 takes-truncated x from to ts = takes-unless (holds to from) x (fitted to) ts (takes-fitted x to ts)
 
 takes-negated : (x : Context) (ts : List ValType) → Takes x negated (I32 ∷ ts) (I32 ∷ ts)

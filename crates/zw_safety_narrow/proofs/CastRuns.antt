@@ -272,7 +272,7 @@ cast-ends m v c s (Sized false from) Comptime a os rest hf ht i scratch state = 
 pub fits : (m : Module) (v : View) (c : Config) (to : IntTy) (z : ℤ) (os locals : List Num) → IsNarrow to → Moves m v c (fitted to) (having (word z os) locals) (having (word (wrapped to z) os) locals) 6
 fits m v c to z os locals h = let steps = steps-fitted m v c to z os locals h in record { count = steps.0; few = steps.1; steps = steps.2 }
 
-same_value : (to from : IntTy) (a : ℤ) → IsNarrow to → holds to from ≡ true → IsIn from a → wrapped to a ≡ a
+pub same_value : (to from : IntTy) (a : ℤ) → IsNarrow to → holds to from ≡ true → IsIn from a → wrapped to a ≡ a
 same_value (Sized signed to) from a h e i = wrapped_same signed to a (holds_in (Sized signed to) from a e i)
 same_value Comptime from a h e i = absurd h
 

@@ -65,7 +65,7 @@ own m v c (Sized false count) a os locals h i =
     (few-moves 2 (lit≤ tt) (moves (steps-none m v c (having (word a os) locals))))
 own m v c Comptime a os locals h i = absurd h
 
-narrow_width : (from : IntTy) → IsNarrow from → width from ≤ 32
+pub narrow_width : (from : IntTy) → IsNarrow from → width from ≤ 32
 narrow_width (Sized signed count) h = h
 narrow_width Comptime h = absurd h
 

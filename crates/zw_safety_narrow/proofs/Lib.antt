@@ -27,4 +27,7 @@ pub mod CountRight
 pub mod ExactRuns
 pub mod SaturatingShifts
 pub mod ExactRight
+pub mod DigitSwaps
+pub mod ReversalRuns
+pub mod ReversalRight
 pub mod ServedRight

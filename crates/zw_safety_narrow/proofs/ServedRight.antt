@@ -1,15 +1,17 @@
 -- The code of each operator that is served is right wherever it stands, by the tables of operators.
-use Rattle.std.proofs.Common.{◌≡◌, ℕ, Bool, true, false, List, [], ◌∷◌, refl, subst, arith}
+use Rattle.std.proofs.Common.{◌≡◌, ℕ, ◌%◌, Bool, true, false, List, [], ◌∷◌, refl, subst, arith}
 use Rattle.std.specs.Prelude.{nat_eq, ◌||◌, drop}
 use Rattle.std.specs.List.{AllByRecursion}
+use Rattle.zw_num.specs.Arithmetic.{width}
 use Rattle.zw_num.specs.declared.int_ty.IntTy.{IntTy}
-use Rattle.zw_num.specs.declared.op.TheConstants.{SHL_SAT}
+use Rattle.zw_num.specs.declared.op.TheConstants.{SHL_SAT, BYTE_SWAP}
 use Rattle.zw_safety_narrow.proofs.CastRight.{neg-right, bit_not-right, neg_wrap-right, not-right, abs-right, as-right, from_bool-right, cast-right, truncate-right, bit_cast-right}
 use Rattle.zw_safety_narrow.proofs.CountRight.{clz-right, ctz-right, pop_count-right}
 use Rattle.zw_safety_narrow.proofs.ExactRight.{div_exact-right, shl_exact-right, shr_exact-right, shl_sat-right}
 use Rattle.zw_safety_narrow.proofs.FloorRight.{mod-right, div_floor-right}
 use Rattle.zw_safety_narrow.proofs.OperatorsRight.{AreNarrow, sum-right, difference-right, product-right, sum_wrap-right, difference_wrap-right, product_wrap-right}
 use Rattle.zw_safety_narrow.proofs.OrderRight.{and-right, or-right, xor-right, equal-right, not_equal-right, less-right, less_or_equal-right, greater-right, greater_or_equal-right, min-right, max-right}
+use Rattle.zw_safety_narrow.proofs.ReversalRight.{byte_swap-right, bit_reverse-right}
 use Rattle.zw_safety_narrow.proofs.SaturatingRight.{add_sat-right, sub_sat-right, mul_sat-right}
 use Rattle.zw_safety_narrow.proofs.ShareRight.{shl-right, shr-right, div-right, rem-right, div_trunc-right, rem_trunc-right}
 use Rattle.zw_safety_narrow.specs.CompareCode.{is_unsigned}
@@ -50,15 +52,16 @@ served_on_two op s left right to served among =
 
 pub served_on_one : (op s : ℕ) (left right to : IntTy) → IsServed op left right to → is_among op operators_of_one ≡ true → IsRightOnOne op left to s (operator_code op left right to s)
 served_on_one op s left right to served among =
-    let P : ℕ → Type 0 = λ n. IsRightOnOne n left to s (operator_code n left right to s) in
+    let P : ℕ → Type 0 = λ n. (nat_eq n BYTE_SWAP ≡ true → width left % 8 ≡ 0) → IsRightOnOne n left to s (operator_code n left right to s) in
     let h = served.left_narrow in
     let k = served.to_narrow in
-    let counts : AllByRecursion P (drop 10 operators_of_one) = (clz-right left to s h k, (ctz-right left to s h k, (pop_count-right left to s h k, tt))) in
-    let last : AllByRecursion P (drop 9 operators_of_one) = (bit_cast-right left to s h k, counts) in
-    let casts : AllByRecursion P (drop 6 operators_of_one) = (from_bool-right left to s h k, (cast-right left to s h k, (truncate-right left to s h k, last))) in
-    let truths : AllByRecursion P (drop 3 operators_of_one) = (not-right left to s h k, (abs-right left to s h k, (as-right left to s h k, casts))) in
-    let signs : AllByRecursion P (drop 0 operators_of_one) = (neg-right left to s h k, (bit_not-right left to s h k, (neg_wrap-right left to s h k, truths))) in
-    each_among P operators_of_one signs op among
+    let reversals : AllByRecursion P (drop 13 operators_of_one) = (λ u. byte_swap-right left to s h k (u refl), (λ u. bit_reverse-right left to s h k, tt)) in
+    let counts : AllByRecursion P (drop 10 operators_of_one) = (λ u. clz-right left to s h k, (λ u. ctz-right left to s h k, (λ u. pop_count-right left to s h k, reversals))) in
+    let last : AllByRecursion P (drop 9 operators_of_one) = (λ u. bit_cast-right left to s h k, counts) in
+    let casts : AllByRecursion P (drop 6 operators_of_one) = (λ u. from_bool-right left to s h k, (λ u. cast-right left to s h k, (λ u. truncate-right left to s h k, last))) in
+    let truths : AllByRecursion P (drop 3 operators_of_one) = (λ u. not-right left to s h k, (λ u. abs-right left to s h k, (λ u. as-right left to s h k, casts))) in
+    let signs : AllByRecursion P (drop 0 operators_of_one) = (λ u. neg-right left to s h k, (λ u. bit_not-right left to s h k, (λ u. neg_wrap-right left to s h k, truths))) in
+    each_among P operators_of_one signs op among served.whole_bytes
 
 pub served_right : (op s : ℕ) (left right to : IntTy) → IsServed op left right to → IsRightCode op left right to s (operator_code op left right to s)
 served_right op s left right to served = record {

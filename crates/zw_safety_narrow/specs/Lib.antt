@@ -9,5 +9,6 @@ pub mod SaturatingCode
 pub mod FloorCode
 pub mod CountCode
 pub mod ExactCode
+pub mod ReversalCode
 pub mod OperatorCode
 pub mod Operators

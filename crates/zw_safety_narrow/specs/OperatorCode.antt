@@ -1,7 +1,7 @@
 -- The code of each operator that is served.
 use Rattle.std.specs.Prelude.{ℕ, nat_eq, List, [], ◌∷◌, if◌then◌else◌}
 use Rattle.zw_num.specs.declared.int_ty.IntTy.{IntTy}
-use Rattle.zw_num.specs.declared.op.TheConstants.{ADD, SUB, MUL, ADD_WRAP, SUB_WRAP, MUL_WRAP, ADD_SAT, SUB_SAT, MUL_SAT, BIT_AND, BIT_OR, BIT_XOR, NEG_WRAP, NOT, EQUAL, NOT_EQUAL, LESS, LESS_OR_EQUAL, GREATER, GREATER_OR_EQUAL, INT_CAST, TRUNCATE, BIT_CAST, ABS, MIN, MAX, SHL, SHR, DIV, REM, DIV_TRUNC, REM_TRUNC, MOD, DIV_FLOOR, CLZ, CTZ, POP_COUNT, NEG, BIT_NOT, DIV_EXACT, SHL_EXACT, SHR_EXACT, SHL_SAT}
+use Rattle.zw_num.specs.declared.op.TheConstants.{ADD, SUB, MUL, ADD_WRAP, SUB_WRAP, MUL_WRAP, ADD_SAT, SUB_SAT, MUL_SAT, BIT_AND, BIT_OR, BIT_XOR, NEG_WRAP, NOT, EQUAL, NOT_EQUAL, LESS, LESS_OR_EQUAL, GREATER, GREATER_OR_EQUAL, INT_CAST, TRUNCATE, BIT_CAST, ABS, MIN, MAX, SHL, SHR, DIV, REM, DIV_TRUNC, REM_TRUNC, MOD, DIV_FLOOR, CLZ, CTZ, POP_COUNT, NEG, BIT_NOT, DIV_EXACT, SHL_EXACT, SHR_EXACT, SHL_SAT, BYTE_SWAP, BIT_REVERSE}
 use Rattle.zw_safety_narrow.specs.CastCode.{cast_code, truncated_code, negated_code, opposite_code, turned_code, distance_code}
 use Rattle.zw_safety_narrow.specs.CompareCode.{comparison_code, choice_code}
 use Rattle.zw_safety_narrow.specs.CountCode.{leading_code, trailing_code, ones_code}
@@ -9,6 +9,7 @@ use Rattle.zw_safety_narrow.specs.DivisionCode.{quotient_code, rest_code}
 use Rattle.zw_safety_narrow.specs.ExactCode.{exact_quotient_code, left_exact_code, right_exact_code}
 use Rattle.zw_safety_narrow.specs.FloorCode.{modulo_code, floor_code}
 use Rattle.zw_safety_narrow.specs.NarrowCode.{sum_code, difference_code, exact_code, wrapped_code}
+use Rattle.zw_safety_narrow.specs.ReversalCode.{byte_swap_code, bit_reverse_code}
 use Rattle.zw_safety_narrow.specs.SaturatingCode.{saturated_code, saturated_product_code, saturated_left_code}
 use Rattle.zw_safety_narrow.specs.ShiftCode.{left_code, right_code}
 use Rattle.zw_wasm.specs.declared.module.BinaryOperator.{BinaryOperator}
@@ -32,6 +33,12 @@ code_of_counts op from scratch =
     if nat_eq op CLZ then leading_code from
     else (if nat_eq op CTZ then trailing_code from scratch else (if nat_eq op POP_COUNT then ones_code from else []))
 
+-- bytes or bits in the other order
+abbrev pub code_of_reversals : ℕ → IntTy → IntTy → ℕ → List Instr
+code_of_reversals op from to scratch =
+    if nat_eq op BYTE_SWAP then byte_swap_code from to scratch
+    else (if nat_eq op BIT_REVERSE then bit_reverse_code from to scratch else code_of_counts op from scratch)
+
 -- the operators of one operand
 abbrev pub code_of_one : ℕ → IntTy → IntTy → ℕ → List Instr
 code_of_one op from to scratch =
@@ -42,7 +49,7 @@ code_of_one op from to scratch =
     else (if nat_eq op ABS then distance_code from scratch
     else (if nat_eq op INT_CAST then cast_code from to scratch
     else (if nat_eq op TRUNCATE then truncated_code from to
-    else (if nat_eq op BIT_CAST then truncated_code from to else code_of_counts op from scratch)))))))
+    else (if nat_eq op BIT_CAST then truncated_code from to else code_of_reversals op from to scratch)))))))
 
 -- exact quotients and shifts, and the shift that stops at the bounds of its type
 abbrev pub code_of_exact : ℕ → IntTy → IntTy → IntTy → ℕ → List Instr

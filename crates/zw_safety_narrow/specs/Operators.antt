@@ -1,16 +1,16 @@
 -- Operators: what the code of an operator owes on any of the types that are served (Zig Language Reference 0.13.0, Operators and
 -- Builtin Functions): on values of its operands' types it leaves the value that the exact numbers give, or tells the cause and
 -- traps. A `bool` is a `u1`: 1 where it is true.
-use Rattle.std.specs.Prelude.{◌≡◌, ◌&&◌, ℕ, ◌≤◌, ℤ, pos, neg_ℤ, ◌+ℤ◌, ◌-ℤ◌, ◌*ℤ◌, Bool, true, false, not, ◌||◌, nat_eq, nat_le, int_lt, int_le, unsigned_abs, count_ones, List, [], ◌∷◌, ◌++◌, map, Result, Ok, Err, if◌then◌else◌}
+use Rattle.std.specs.Prelude.{◌≡◌, ◌&&◌, ℕ, ◌/◌, ◌%◌, ◌≤◌, ℤ, pos, neg_ℤ, ◌+ℤ◌, ◌-ℤ◌, ◌*ℤ◌, Bool, true, false, not, ◌||◌, nat_eq, nat_le, int_lt, int_le, unsigned_abs, count_ones, List, [], ◌∷◌, ◌++◌, map, Result, Ok, Err, if◌then◌else◌}
 use Rattle.std.specs.Int.{int_min, int_max}
 use Rattle.std.specs.Int.Count.{count_leading_zeros, count_trailing_zeros}
 use Rattle.std.specs.Ordering.{int_eq}
-use Rattle.zw_num.specs.Arithmetic.{IsIn, width, pattern, exact, wrapped, saturated, cast_to, bits_and, bits_or, bits_xor, bits_not, power, shifted, kept, none_lost, none_dropped, floored, divided, truncated, exact_quotient, rest_of}
+use Rattle.zw_num.specs.Arithmetic.{IsIn, width, pattern, exact, wrapped, saturated, cast_to, bits_and, bits_or, bits_xor, bits_not, power, shifted, kept, none_lost, none_dropped, floored, divided, truncated, exact_quotient, rest_of, reversed}
 use Rattle.zw_num.specs.declared.int_ty.IntTy.{IntTy}
 use Rattle.zw_num.specs.declared.int_ty.IntTy.TheVariants.{Sized, Comptime}
 use Rattle.zw_num.specs.declared.num_fault.NumFault.{NumFault}
 use Rattle.zw_num.specs.declared.num_fault.NumFault.TheVariants.{Overflow, DivZero, Remainder, ShiftAmount, ShiftBits, Truncated, Negative}
-use Rattle.zw_num.specs.declared.op.TheConstants.{ADD, SUB, MUL, ADD_WRAP, SUB_WRAP, MUL_WRAP, ADD_SAT, SUB_SAT, MUL_SAT, BIT_AND, BIT_OR, BIT_XOR, NEG_WRAP, NOT, EQUAL, NOT_EQUAL, LESS, LESS_OR_EQUAL, GREATER, GREATER_OR_EQUAL, AS, INT_CAST, TRUNCATE, BIT_CAST, INT_FROM_BOOL, ABS, MIN, MAX, SHL, SHR, DIV, REM, DIV_TRUNC, REM_TRUNC, MOD, DIV_FLOOR, CLZ, CTZ, POP_COUNT, NEG, BIT_NOT, DIV_EXACT, SHL_EXACT, SHR_EXACT, SHL_SAT}
+use Rattle.zw_num.specs.declared.op.TheConstants.{ADD, SUB, MUL, ADD_WRAP, SUB_WRAP, MUL_WRAP, ADD_SAT, SUB_SAT, MUL_SAT, BIT_AND, BIT_OR, BIT_XOR, NEG_WRAP, NOT, EQUAL, NOT_EQUAL, LESS, LESS_OR_EQUAL, GREATER, GREATER_OR_EQUAL, AS, INT_CAST, TRUNCATE, BIT_CAST, INT_FROM_BOOL, ABS, MIN, MAX, SHL, SHR, DIV, REM, DIV_TRUNC, REM_TRUNC, MOD, DIV_FLOOR, CLZ, CTZ, POP_COUNT, NEG, BIT_NOT, DIV_EXACT, SHL_EXACT, SHR_EXACT, SHL_SAT, BYTE_SWAP, BIT_REVERSE}
 use Rattle.zw_safety_narrow.specs.Checked.{HasPanicState, HasScratch, KeepsOthers, PanicStateIsTyped, ScratchIsTyped, most_instructions, needs_scratch, panicked}
 use Rattle.zw_safety_narrow.specs.CompareCode.{is_unsigned}
 use Rattle.zw_session.specs.Causes.{integer_overflow}
@@ -132,6 +132,8 @@ answers_of_one =
     (CLZ, λ from to a. Ok (pos (count_leading_zeros (width from) (pattern (width from) a)))) ∷
     (CTZ, λ from to a. Ok (pos (count_trailing_zeros (width from) (pattern (width from) a)))) ∷
     (POP_COUNT, λ from to a. Ok (pos (count_ones (pattern (width from) a)))) ∷
+    (BYTE_SWAP, λ from to a. Ok (wrapped to (pos (reversed 256 (width from / 8) (pattern (width from) a))))) ∷
+    (BIT_REVERSE, λ from to a. Ok (wrapped to (pos (reversed 2 (width from) (pattern (width from) a))))) ∷
     []
 
 abbrev pub answer_of : ℕ → IntTy → ℤ → ℤ → Result ℤ NumFault
@@ -149,13 +151,14 @@ operators_of_one = map (λ (row : ℕ × OfOne). row.0) answers_of_one
 
 -- Which operators are served by now, and on which types: those of the two tables, on integers of at most 32 bits, signed or not,
 -- and on `bool`. The types of the operands and of the result may differ. An operator of one operand has the left one, and the
--- right one's type may be any. That of `<<|` is unsigned.
+-- right one's type may be any. That of `<<|` is unsigned. `@byteSwap` is for whole bytes.
 pub record IsServed (op : ℕ) (left right to : IntTy) : Type 0 where
   pub operator : (is_among op operators_of_two || is_among op operators_of_one) ≡ true
   pub left_narrow : IsNarrow left
   pub right_narrow : is_among op operators_of_two ≡ true → IsNarrow right
   pub to_narrow : IsNarrow to
   pub right_unsigned : nat_eq op SHL_SAT ≡ true → is_unsigned right ≡ true
+  pub whole_bytes : nat_eq op BYTE_SWAP ≡ true → width left % 8 ≡ 0
 
 -- the cause of a panic, by why an operator gives no number
 abbrev pub cause_of : NumFault → ℕ

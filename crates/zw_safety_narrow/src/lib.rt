@@ -9,6 +9,7 @@ mod division;
 mod exact;
 mod laws;
 mod operators;
+mod reversal;
 mod saturating;
 mod shifts;
 

@@ -3,7 +3,7 @@ ghost use Rattle.std.specs.Prelude.{◌≡◌, ◌≤◌, ◌-◌, ◌/◌, ◌^
 ghost use Rattle.zw_num.specs.Arithmetic.{width};
 ghost use Rattle.zw_safety_narrow.specs.Code.{add_code, sub_code, kept, less, if_panics};
 ghost use Rattle.zw_safety_narrow.specs.NarrowCode.{extension, above_least, extended, in_range_or, exact_code_or, narrowed, lifted, masked, moved, wrapped_code, fitted, is_u32, sum_code, difference_code};
-ghost use Rattle.zw_safety_narrow.specs.OperatorCode.{word_code, not_code, code_of_counts, code_of_one, code_of_bounds, code_of_exact, code_of_order, code_of_shares, operator_code};
+ghost use Rattle.zw_safety_narrow.specs.OperatorCode.{word_code, not_code, code_of_counts, code_of_reversals, code_of_one, code_of_bounds, code_of_exact, code_of_order, code_of_shares, operator_code};
 ghost use Rattle.zw_safety_narrow.specs.Operators.{IsNarrow};
 ghost use Rattle.zw_num.specs.declared.int_ty.IntTy.TheVariants.{Sized};
 
@@ -14,15 +14,17 @@ use crate::compare::{push_choice, push_comparison};
 use crate::counts::{push_leading, push_ones, push_trailing};
 use crate::division::{push_floor, push_modulo, push_quotient, push_rest};
 use crate::exact::{push_exact_quotient, push_left_exact, push_right_exact};
+use crate::reversal::{push_bit_reverse, push_byte_swap};
 use crate::saturating::{push_saturated, push_saturated_left, push_saturated_product};
 use crate::shifts::{push_left, push_right};
 use std::alloc::AllocError;
 use zw_num::IntTy;
 use zw_num::op::{
-    ABS, ADD, ADD_SAT, ADD_WRAP, BIT_AND, BIT_CAST, BIT_NOT, BIT_OR, BIT_XOR, CLZ, CTZ, DIV,
-    DIV_EXACT, DIV_FLOOR, DIV_TRUNC, EQUAL, GREATER, GREATER_OR_EQUAL, INT_CAST, LESS,
-    LESS_OR_EQUAL, MAX, MIN, MOD, MUL, MUL_SAT, MUL_WRAP, NEG, NEG_WRAP, NOT, NOT_EQUAL, POP_COUNT,
-    REM, REM_TRUNC, SHL, SHL_EXACT, SHL_SAT, SHR, SHR_EXACT, SUB, SUB_SAT, SUB_WRAP, TRUNCATE,
+    ABS, ADD, ADD_SAT, ADD_WRAP, BIT_AND, BIT_CAST, BIT_NOT, BIT_OR, BIT_REVERSE, BIT_XOR,
+    BYTE_SWAP, CLZ, CTZ, DIV, DIV_EXACT, DIV_FLOOR, DIV_TRUNC, EQUAL, GREATER, GREATER_OR_EQUAL,
+    INT_CAST, LESS, LESS_OR_EQUAL, MAX, MIN, MOD, MUL, MUL_SAT, MUL_WRAP, NEG, NEG_WRAP, NOT,
+    NOT_EQUAL, POP_COUNT, REM, REM_TRUNC, SHL, SHL_EXACT, SHL_SAT, SHR, SHR_EXACT, SUB, SUB_SAT,
+    SUB_WRAP, TRUNCATE,
 };
 use zw_wasm::{BinaryOperator, Comparison, Conversion, Instr, ValType};
 
@@ -209,6 +211,26 @@ fn push_of_one(
         INT_CAST => push_cast(from, to, scratch, out),
         TRUNCATE => push_truncated(from, to, out),
         BIT_CAST => push_truncated(from, to, out),
+        _ => push_reversals(op, from, to, scratch, out),
+    }
+}
+
+/// Appends the code of an operator that puts bytes or bits in the other order.
+fn push_reversals(
+    op: u16,
+    from: IntTy,
+    to: IntTy,
+    scratch: u32,
+    out: &mut Vec<Instr>,
+) -> Result<(), AllocError>
+    requires from_narrow { IsNarrow from }
+    requires to_narrow { IsNarrow to }
+    requires scratch { scratch ≤ 4294967287 }
+    ensures { OnOk result (out.new.items ≡ out.old.items ++ code_of_reversals op from to scratch) }
+{
+    match op {
+        BYTE_SWAP => push_byte_swap(from, to, scratch, out),
+        BIT_REVERSE => push_bit_reverse(from, to, scratch, out),
         _ => push_counts(op, from, scratch, out),
     }
 }
@@ -438,8 +460,12 @@ fn push_signed(half: i32, mask: i32, out: &mut Vec<Instr>) -> Result<(), AllocEr
     Ok(())
 }
 
-/// Appends code that goes up or down by so much.
-fn push_moved(half: i32, operator: BinaryOperator, out: &mut Vec<Instr>) -> Result<(), AllocError>
+/// Appends an operator with a constant as its right operand, as to go up or down by so much.
+pub fn push_moved(
+    half: i32,
+    operator: BinaryOperator,
+    out: &mut Vec<Instr>,
+) -> Result<(), AllocError>
     ensures { OnOk result (out.new.items ≡ out.old.items ++ moved half operator) }
 {
     out.push(Instr::I32Const(half))?;

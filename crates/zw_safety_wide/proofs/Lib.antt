@@ -11,4 +11,17 @@ pub mod WideOrderRuns
 pub mod WideBitRight
 pub mod WideCastRuns
 pub mod WideCastRight
+pub mod WideShareRuns
 pub mod WideShareRight
+pub mod WideAnswers
+pub mod WideShares
+pub mod WideSaturating
+pub mod WideSaturatingRuns
+pub mod WideSaturatingShort
+pub mod WideSaturatingRight
+pub mod WideShifts
+pub mod WideShiftRuns
+pub mod WideShiftRight
+pub mod WideTruthRight
+pub mod WideReversalRuns
+pub mod WideReversalRight

@@ -54,7 +54,7 @@ takes-wide_fitted x to ts = fitted-for (fills_word to) x to ts
 pub takes-both_got : (x : Context) (s : ℕ) (ts : List ValType) → LongsAreTyped s x.locals → Takes x (both_got s) ts (I64 ∷ I64 ∷ ts)
 takes-both_got x s ts h = takes-then (takes-local_get x (s + 5) I64 ts h.left) (takes-local_get x (s + 4) I64 (I64 ∷ ts) h.right)
 
-takes-far : (x : Context) (count s : ℕ) (ts : List ValType) → LongsAreTyped s x.locals → PanicStateIsTyped x.module_ → Takes x (far_tested count s) ts ts
+pub takes-far : (x : Context) (count s : ℕ) (ts : List ValType) → LongsAreTyped s x.locals → PanicStateIsTyped x.module_ → Takes x (far_tested count s) ts ts
 takes-far x count s ts h state =
     takes-then (takes-local_get x (s + 4) I64 ts h.right)
     (takes-then (takes-long_const x (pos count) (I64 ∷ ts)) (takes-then (takes-compare_long x GeU ts) (takes-if_panics x 9 ts state)))
@@ -153,7 +153,7 @@ takes-compared_for false false x o left right s ts h = takes-then (takes-spread 
 takes-extend_u : (x : Context) (ts : List ValType) → Takes x (Convert ExtendU ∷ []) (I32 ∷ ts) (I64 ∷ ts)
 takes-extend_u x ts = takes-instr x (Convert ExtendU) (I32 ∷ ts) (I64 ∷ ts) (λ below c outer. refl)
 
-takes-truth_for : (w : Bool) (x : Context) (ts : List ValType) → Takes x (if w then [] else Convert ExtendU ∷ []) (I32 ∷ ts) (type_by w ∷ ts)
+pub takes-truth_for : (w : Bool) (x : Context) (ts : List ValType) → Takes x (if w then [] else Convert ExtendU ∷ []) (I32 ∷ ts) (type_by w ∷ ts)
 takes-truth_for true x ts = takes-none x (I32 ∷ ts)
 takes-truth_for false x ts = takes-extend_u x ts
 
@@ -167,7 +167,7 @@ compare-closed o = record { by = λ open_ifs rest h. h }
 mixed-closed : (o : Compared) (left : IntTy) (s : ℕ) → IsClosed (mixed_code o left s)
 mixed-closed o left s = record { by = λ open_ifs rest h. h }
 
-truth-closed : (w : Bool) → IsClosed (if w then [] else Convert ExtendU ∷ [])
+pub truth-closed : (w : Bool) → IsClosed (if w then [] else Convert ExtendU ∷ [])
 truth-closed true = record { by = λ open_ifs rest h. h }
 truth-closed false = record { by = λ open_ifs rest h. h }
 
@@ -304,11 +304,11 @@ wide_from_bool-right from to s hf ht = record {
   closed = same-closed from to;
 }
 
-takes-truncated_for : (t : Bool) (x : Context) (to : IntTy) (ts : List ValType) → Takes x (if t then settled to else wide_fitted to) (I64 ∷ ts) (type_of to ∷ ts)
+pub takes-truncated_for : (t : Bool) (x : Context) (to : IntTy) (ts : List ValType) → Takes x (if t then settled to else wide_fitted to) (I64 ∷ ts) (type_of to ∷ ts)
 takes-truncated_for true x to ts = takes-settled x to ts
 takes-truncated_for false x to ts = takes-wide_fitted x to ts
 
-truncated_for-closed : (t : Bool) (to : IntTy) → IsClosed (if t then settled to else wide_fitted to)
+pub truncated_for-closed : (t : Bool) (to : IntTy) → IsClosed (if t then settled to else wide_fitted to)
 truncated_for-closed true to = settled-closed to
 truncated_for-closed false to = fitted-closed (fills_word to) to
 

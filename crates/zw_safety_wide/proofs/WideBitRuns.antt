@@ -89,11 +89,11 @@ from_test count n same = ap (λ k. nat_le count k) same ∙ grind (arith, ints)
 below_test : (count n : ℕ) → count ≤ 64 → n < 2 ^ 63 → nat_le count (2 ^ 64 - 1 - n % 2 ^ 64) ≡ true
 below_test count n h low = let far : count ≤ 2 ^ 64 - 1 - n % 2 ^ 64 = omega (arith, h, low) in grind (arith, far)
 
-amount_test : (count : ℕ) (b : ℤ) → count ≤ 64 → IsHeld b → nat_le count (pattern 64 b) ≡ not (in_width count b)
+pub amount_test : (count : ℕ) (b : ℤ) → count ≤ 64 → IsHeld b → nat_le count (pattern 64 b) ≡ not (in_width count b)
 amount_test count (pos n) h long = from_test count n (omega (arith, ints, long.high))
 amount_test count (negsuc n) h long = below_test count n h (omega (arith, ints, long.low))
 
-always_amount : (right : IntTy) (wide : ℕ) (b : ℤ) → are_wide_amounts right wide ≡ true → IsIn right b → in_width wide b ≡ true
+pub always_amount : (right : IntTy) (wide : ℕ) (b : ℤ) → are_wide_amounts right wide ≡ true → IsIn right b → in_width wide b ≡ true
 always_amount (Sized false count) wide (pos n) e i = amount_small count wide n (both-true (nat_lt count 7) (nat_le (2 ^ count) wide) e).1 i
 always_amount (Sized false count) wide (negsuc n) e i = absurd (omega (arith, ints, i.at_least))
 always_amount (Sized true count) wide b e i = absurd (cc)
@@ -108,7 +108,7 @@ pub record IsWideAmount (b : ℤ) : Type 0 where
 amount_from : (count n : ℕ) → count ≤ 64 → in_width count (pos n) ≡ true → n < 64
 amount_from count n h e = grind (arith, ints, e)
 
-amount_is : (count : ℕ) (b : ℤ) → count ≤ 64 → in_width count b ≡ true → IsWideAmount b
+pub amount_is : (count : ℕ) (b : ℤ) → count ≤ 64 → in_width count b ≡ true → IsWideAmount b
 amount_is count (pos n) h e = record { value = n; is = refl; small = amount_from count n h e }
 amount_is count (negsuc n) h e = absurd (cc)
 
@@ -121,7 +121,7 @@ record Amounts (m : Module) (v : View) (c : Config) (is : List Instr) (s : ℕ) 
   passes : t ≡ true → Brings m v c is s (filled_both left right a b os) (longs a b os) locals 10
   fails : t ≡ false → (count : ℕ) × (count ≤ 20) × Fails m v c is (having (filled_both left right a b os) locals) 9 count
 
-steps-far : (m : Module) (v : View) (c : Config) (count s : ℕ) (a b : ℤ) (t : Bool) (os before locals : List Num) → count ≤ 64 → IsHeld b → in_width count b ≡ t → HasOperands s before locals (pattern 64 a) (pattern 64 b) → Steps m v c (LocalGet (s + 4) ∷ I64Const (pos count) ∷ Compare ty.I64 GeU ∷ []) (having os locals) (having (I32 (bit_of (not t)) ∷ os) locals) 3
+pub steps-far : (m : Module) (v : View) (c : Config) (count s : ℕ) (a b : ℤ) (t : Bool) (os before locals : List Num) → count ≤ 64 → IsHeld b → in_width count b ≡ t → HasOperands s before locals (pattern 64 a) (pattern 64 b) → Steps m v c (LocalGet (s + 4) ∷ I64Const (pos count) ∷ Compare ty.I64 GeU ∷ []) (having os locals) (having (I32 (bit_of (not t)) ∷ os) locals) 3
 steps-far m v c count s a b t os before locals h long e has =
     let y = I64 (pattern 64 b) in
     steps-then (steps-get m v c (s + 4) y os locals has.right)
@@ -170,7 +170,7 @@ shift_for false m v c s left right to a b z os is rest count h hl hr il ir room 
 
 -- ---- to the left
 
-shl_bits : (a b : ℤ) → IsWideAmount b → binary_of Shl w64 (pattern 64 a) (pattern 64 b) ≡ Gives (pattern 64 (a *ℤ power b))
+pub shl_bits : (a b : ℤ) → IsWideAmount b → binary_of Shl w64 (pattern 64 a) (pattern 64 b) ≡ Gives (pattern 64 (a *ℤ power b))
 shl_bits a b n = ap (λ z. binary_of Shl w64 (pattern 64 a) (pattern 64 z)) n.is ∙ shl_wide a n.value n.small ∙ ap (λ z. Gives (pattern 64 (a *ℤ z))) (sym (power_is b n.value n.is))
 
 pub wide_left-ends : (m : Module) (v : View) (c : Config) (s : ℕ) (left right to : IntTy) (a b : ℤ) (os : List Num) (rest : List Instr) → IsStored left → IsStored right → IsStored to → IsIn left a → IsIn right b → HasScratch s c.frame.locals → HasPanicState c.world.store → EndsOn m v c s left right to a b os (wide_left_code left right to s) rest (shifted to b (kept to (a *ℤ power b)))
@@ -183,7 +183,7 @@ wide_left-ends m v c s left right Comptime a b os rest hl hr ht il ir room state
 
 -- ---- to the right
 
-low_amount : (b : ℤ) (n : IsWideAmount b) → pattern 64 b % 64 ≡ n.value
+pub low_amount : (b : ℤ) (n : IsWideAmount b) → pattern 64 b % 64 ≡ n.value
 low_amount b n = let small = n.small in ap (λ z. pattern 64 z % 64) n.is ∙ omega (arith, small)
 
 shift_fits : (a : ℤ) (p : ℕ) → FitsSigned w64 a → FitsSigned w64 (shr_z a p)
@@ -213,7 +213,7 @@ signed_fits count a h i = let few = power_long count h in fits_between a (omega 
 pub natural_low : (count x : ℕ) → count ≤ 64 → IsIn (Sized false count) (pos x) → x < 2 ^ 64
 natural_low count x h i = let few = power_long count h in omega (arith, ints, i.at_most, few)
 
-shr_bits : (left : IntTy) (a b : ℤ) → IsStored left → IsIn left a → IsWideAmount b → binary_of (right_operator left) w64 (pattern 64 a) (pattern 64 b) ≡ Gives (pattern 64 (floored a (power b)))
+pub shr_bits : (left : IntTy) (a b : ℤ) → IsStored left → IsIn left a → IsWideAmount b → binary_of (right_operator left) w64 (pattern 64 a) (pattern 64 b) ≡ Gives (pattern 64 (floored a (power b)))
 shr_bits (Sized true count) a b h i n = shr_signed a b (signed_fits count a h i) n
 shr_bits (Sized false count) (pos x) b h i n = shr_natural x b (natural_low count x h i) n
 shr_bits (Sized false count) (negsuc x) b h i n = absurd (omega (arith, ints, i.at_least))
@@ -257,7 +257,7 @@ same_value : (to from : IntTy) (a : ℤ) → IsStored to → holds to from ≡ t
 same_value (Sized signed to) from a h e i = wrapped_same signed to a (holds_in (Sized signed to) from a e i)
 same_value Comptime from a h e i = absurd h
 
-truncated_for : (t : Bool) (m : Module) (v : View) (c : Config) (from to : IntTy) (a : ℤ) (os locals : List Num) → holds to from ≡ t → IsStored to → IsIn from a → Reaches m v c (if t then settled to else wide_fitted to) (having (I64 (pattern 64 a) ∷ os) locals) (having (filled to (wrapped to a) ∷ os) locals) 7
+pub truncated_for : (t : Bool) (m : Module) (v : View) (c : Config) (from to : IntTy) (a : ℤ) (os locals : List Num) → holds to from ≡ t → IsStored to → IsIn from a → Reaches m v c (if t then settled to else wide_fitted to) (having (I64 (pattern 64 a) ∷ os) locals) (having (filled to (wrapped to a) ∷ os) locals) 7
 truncated_for true m v c from to a os locals e ht i =
     subst (λ z. Reaches m v c (settled to) (having (I64 (pattern 64 a) ∷ os) locals) (having (filled to z ∷ os) locals) 7) (sym (same_value to from a ht e i)) (reaches-within (steps-settled m v c to a os locals) 7 (lit≤ tt))
 truncated_for false m v c from to a os locals e ht i = steps-fitted_wide m v c to a os locals ht
@@ -270,7 +270,7 @@ wide_truncated-ends m v c s from to a os rest hf ht i =
 
 -- ---- `-`
 
-zero_in : (t : IntTy) → IsStored t → IsIn t (pos 0)
+pub zero_in : (t : IntTy) → IsStored t → IsIn t (pos 0)
 zero_in (Sized false count) h = record { at_least = omega (arith, ints); at_most = omega (arith, ints) }
 zero_in (Sized true count) h = record { at_least = omega (arith, ints); at_most = omega (arith, ints) }
 zero_in Comptime h = absurd h

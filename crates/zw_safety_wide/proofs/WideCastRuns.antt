@@ -344,7 +344,7 @@ own m v c (Sized false count) a os locals h i =
     (reaches-within (reaches (steps-none m v c (having (long a os) locals))) 2 (lit≤ tt))
 own m v c Comptime a os locals h i = absurd h
 
-stored_width : (from : IntTy) → IsStored from → width from ≤ 64
+pub stored_width : (from : IntTy) → IsStored from → width from ≤ 64
 stored_width (Sized signed count) h = h
 stored_width Comptime h = absurd h
 

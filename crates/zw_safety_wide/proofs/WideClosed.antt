@@ -49,7 +49,7 @@ narrowed-closed (Sized true count) = record { by = λ open_ifs rest h. h }
 narrowed-closed (Sized false count) = record { by = λ open_ifs rest h. h }
 narrowed-closed Comptime = record { by = λ open_ifs rest h. h }
 
-narrowed_long-closed : (t : IntTy) → IsClosed (narrowed_long t)
+pub narrowed_long-closed : (t : IntTy) → IsClosed (narrowed_long t)
 narrowed_long-closed (Sized true count) = record { by = λ open_ifs rest h. h }
 narrowed_long-closed (Sized false count) = record { by = λ open_ifs rest h. h }
 narrowed_long-closed Comptime = record { by = λ open_ifs rest h. h }
@@ -83,7 +83,7 @@ corrected-closed (Sized true count) n k = record { by = λ open_ifs rest h. h }
 corrected-closed (Sized false count) n k = record { by = λ open_ifs rest h. h }
 corrected-closed Comptime n k = record { by = λ open_ifs rest h. h }
 
-low_word-closed : (o : BinaryOperator) (s : ℕ) → IsClosed (low_word o s)
+pub low_word-closed : (o : BinaryOperator) (s : ℕ) → IsClosed (low_word o s)
 low_word-closed o s = record { by = λ open_ifs rest h. h }
 
 carry-closed : (n k : ℕ) → IsClosed (carry n k)
@@ -109,7 +109,7 @@ if_panics-closed cause = record { by = λ open_ifs rest h. h }
 get-closed : (n : ℕ) → IsClosed (LocalGet n ∷ [])
 get-closed n = record { by = λ open_ifs rest h. h }
 
-outside-closed : (to : IntTy) (n : ℕ) → IsClosed (outside to n)
+pub outside-closed : (to : IntTy) (n : ℕ) → IsClosed (outside to n)
 outside-closed to n = closed-then (high_of-closed to n) (closed-then compare-closed (if_closed (nat_lt (width to) 64) (beyond to n) (beyond-closed to n)))
 
 pub tested-closed : (to : IntTy) (s : ℕ) → IsClosed (tested to s)
@@ -120,16 +120,16 @@ either_closed true q is js ks h k l = h
 either_closed false true is js ks h k l = k
 either_closed false false is js ks h k l = l
 
-sum_words-closed : (left right : IntTy) (s : ℕ) → IsClosed (sum_words left right s)
+pub sum_words-closed : (left right : IntTy) (s : ℕ) → IsClosed (sum_words left right s)
 sum_words-closed left right s =
     closed-then (low_word-closed Add s) (closed-then (carry-closed (s + 6) (s + 4)) (closed-then (raised-closed Add left (s + 5)) (raised-closed Add right (s + 4))))
 
-difference_words-closed : (left right : IntTy) (s : ℕ) → IsClosed (difference_words left right s)
+pub difference_words-closed : (left right : IntTy) (s : ℕ) → IsClosed (difference_words left right s)
 difference_words-closed left right s =
     closed-then (low_word-closed Sub s)
     (closed-then (high_of-closed left (s + 5)) (closed-then (carry-closed (s + 5) (s + 4)) (closed-then (long-closed Sub) (raised-closed Sub right (s + 4)))))
 
-product_words-closed : (left right : IntTy) (s : ℕ) → IsClosed (product_words left right s)
+pub product_words-closed : (left right : IntTy) (s : ℕ) → IsClosed (product_words left right s)
 product_words-closed left right s =
     closed-then (low_word-closed Mul s)
     (closed-then (middle-closed s) (closed-then (high_product-closed s) (closed-then (corrected-closed left (s + 5) (s + 4)) (corrected-closed right (s + 4) (s + 5)))))

@@ -46,7 +46,7 @@ moved a = record { count = a.count; few = a.few; steps = a.steps }
 
 -- ---- operands that are read in one way
 
-fits_long : (t : IntTy) (z : ℤ) → IsStored t → IsIn t z → fits_signed_long t ≡ true → FitsSigned w64 z
+pub fits_long : (t : IntTy) (z : ℤ) → IsStored t → IsIn t z → fits_signed_long t ≡ true → FitsSigned w64 z
 fits_long (Sized true count) z h i e = signed_fits count z h i
 fits_long (Sized false count) (pos n) h i e =
     let less = ltb-true count 64 e in
@@ -78,7 +78,7 @@ related-unsigned o test Comptime right a b is hl hr il ir e = absurd hl
 
 -- ---- a number of all 64 bits against one with a sign
 
-bit-zero : (t : Bool) → nat_eq (bit_of t) 0 ≡ not t
+pub bit-zero : (t : Bool) → nat_eq (bit_of t) 0 ≡ not t
 bit-zero true = refl
 bit-zero false = refl
 
@@ -167,7 +167,7 @@ truth_long : (t : Bool) → bit_of t ≡ pattern 64 (truth t)
 truth_long true = refl
 truth_long false = refl
 
-settled-for : (w : Bool) (m : Module) (v : View) (c : Config) (t : Bool) (os locals : List Num) → Reaches m v c (if w then [] else Convert ExtendU ∷ []) (having (I32 (bit_of t) ∷ os) locals) (having (filled_by w (truth t) ∷ os) locals) 1
+pub settled-for : (w : Bool) (m : Module) (v : View) (c : Config) (t : Bool) (os locals : List Num) → Reaches m v c (if w then [] else Convert ExtendU ∷ []) (having (I32 (bit_of t) ∷ os) locals) (having (filled_by w (truth t) ∷ os) locals) 1
 settled-for true m v c t os locals =
     subst (λ n. Reaches m v c [] (having (I32 (bit_of t) ∷ os) locals) (having (I32 n ∷ os) locals) 1) (truth_bits t) (reaches-within (reaches (steps-none m v c (having (I32 (bit_of t) ∷ os) locals))) 1 (lit≤ tt))
 settled-for false m v c t os locals = reaches (steps-extend_u m v c (bit_of t) (pattern 64 (truth t)) os locals (truth_long t))
@@ -180,7 +180,7 @@ wide_comparison-ends m v c o test s left right to a b os rest is hl hr il ir roo
 
 -- ---- the lesser and the greater of two
 
-chosen_long : (t : Bool) (a b : ℤ) → (if not t then I64 (pattern 64 b) else I64 (pattern 64 a)) ≡ I64 (pattern 64 (if t then a else b))
+pub chosen_long : (t : Bool) (a b : ℤ) → (if not t then I64 (pattern 64 b) else I64 (pattern 64 a)) ≡ I64 (pattern 64 (if t then a else b))
 chosen_long true a b = refl
 chosen_long false a b = refl
 

@@ -165,7 +165,7 @@ steps-narrowed_long m v c false n z os locals h =
     (steps-long m v c And (pattern 64 z) mask (pattern 64 (wrapped (Sized false n) z)) os locals (ap (λ k. Gives k) (masked_long n z h ∙ wrapped_unsigned_long n z h)))))
     6 (lit≤ tt)
 
-if_shorter-for : (b : Bool) (m : Module) (v : View) (c : Config) (signed : Bool) (n : ℕ) (z : ℤ) (os locals : List Num) → n ≤ 64 → nat_lt n 64 ≡ b → Reaches m v c (if b then narrowed_long (Sized signed n) else []) (having (I64 (pattern 64 z) ∷ os) locals) (having (I64 (pattern 64 (wrapped (Sized signed n) z)) ∷ os) locals) 6
+pub if_shorter-for : (b : Bool) (m : Module) (v : View) (c : Config) (signed : Bool) (n : ℕ) (z : ℤ) (os locals : List Num) → n ≤ 64 → nat_lt n 64 ≡ b → Reaches m v c (if b then narrowed_long (Sized signed n) else []) (having (I64 (pattern 64 z) ∷ os) locals) (having (I64 (pattern 64 (wrapped (Sized signed n) z)) ∷ os) locals) 6
 if_shorter-for true m v c signed n z os locals h e = steps-narrowed_long m v c signed n z os locals h
 if_shorter-for false m v c signed n z os locals h e =
     let whole : n ≡ 64 = omega (arith, h, ltb-false n 64 e) in

@@ -1,249 +1,200 @@
--- The code of quotients and rests of unsigned numbers is right wherever it stands where a type has more than 32 bits.
-use Rattle.std.proofs.Common.{◌≡◌, ℕ, zero, suc, ℤ, pos, negsuc, ◌+◌, ◌/◌, ◌%◌, ◌^◌, ◌<◌, ◌≤◌, Bool, true, false, List, [], ◌∷◌, ◌++◌, Ok, Err, refl, sym, ap, ◌∙◌, subst, arith, lit≤}
-use Rattle.std.specs.Prelude.{nat_eq, int_div, int_rem, ◌&&◌, if◌then◌else◌}
-use Rattle.std.proofs.lemmas.Int.{ints}
-use Rattle.std.proofs.Math.Nat.{div-le_self, mod-eq_of_lt, mod-le}
-use Rattle.std.specs.Int.{w64}
-use Rattle.zw_num.proofs.DivisionLemmas.{rest_is}
-use Rattle.zw_num.proofs.WrappedLemmas.{test_from_in}
-use Rattle.zw_num.specs.Arithmetic.{IsIn, is_in, exact, pattern, divided, truncated, floored, rest_of}
+-- The code of quotients and rests is right wherever it stands where a type has more than 32 bits.
+use Rattle.std.proofs.Common.{◌≡◌, ℕ, ℤ, pos, negsuc, ◌+◌, Bool, true, false, List, [], ◌∷◌, ◌++◌, refl}
+use Rattle.std.specs.Prelude.{if◌then◌else◌}
+use Rattle.zw_num.specs.Arithmetic.{IsIn, least}
 use Rattle.zw_num.specs.declared.int_ty.IntTy.{IntTy}
-use Rattle.zw_num.specs.declared.int_ty.IntTy.TheVariants.{Sized, Comptime}
-use Rattle.zw_num.specs.declared.num_fault.NumFault.TheVariants.{Overflow, DivZero}
-use Rattle.zw_num.specs.declared.op.TheConstants.{DIV, REM, DIV_TRUNC, REM_TRUNC, MOD, DIV_FLOOR}
-use Rattle.zw_safety_narrow.proofs.CastRuns.{holds_in}
+use Rattle.zw_num.specs.declared.op.TheConstants.{DIV, REM, DIV_TRUNC, REM_TRUNC, MOD, DIV_FLOOR, DIV_EXACT}
 use Rattle.zw_safety_narrow.proofs.CheckedTypes.{takes-if_panics}
-use Rattle.zw_safety_narrow.proofs.NarrowRuns.{EndsOn}
-use Rattle.zw_safety_narrow.proofs.NarrowTypes.{takes-long}
-use Rattle.zw_safety_narrow.proofs.Pieces.{having, Steps, steps-then, fails-behind, fails-before, steps-get, steps-long, steps-passed, fails-panics}
-use Rattle.zw_safety_narrow.proofs.WordRuns.{both-true}
-use Rattle.zw_safety_narrow.specs.CastCode.{holds}
-use Rattle.zw_safety_narrow.specs.Checked.{HasScratch, HasPanicState, ScratchIsTyped, PanicStateIsTyped}
-use Rattle.zw_safety_narrow.specs.CompareCode.{is_unsigned}
-use Rattle.zw_safety_narrow.specs.Operators.{IsStored, IsRight, filled, type_of}
-use Rattle.zw_safety_wide.proofs.WideBitRight.{AreStored, takes-settled, takes-both_got, both_got-closed}
-use Rattle.zw_safety_wide.proofs.WideBitRuns.{brings-value, filled_both, natural_low, steps-both_got}
-use Rattle.zw_safety_wide.proofs.WideClosed.{closed-then, spread-closed, settled-closed, long-closed}
-use Rattle.zw_safety_wide.proofs.WideRuns.{Reaches, has-operands, reaches, reaches-then, reaches-within, steps-settled, steps-spread, with_operands}
+use Rattle.zw_safety_narrow.proofs.NarrowTypes.{takes-long, takes-word, takes-long_const, takes-compare_long}
+use Rattle.zw_safety_narrow.proofs.SaturatingRight.{takes-select_long, takes-tee_long}
+use Rattle.zw_safety_narrow.specs.Checked.{PanicStateIsTyped}
+use Rattle.zw_safety_narrow.specs.Code.{if_panics}
+use Rattle.zw_safety_narrow.specs.Operators.{IsRight, type_of}
+use Rattle.zw_safety_wide.proofs.WideBitRight.{AreStored, takes-settled, takes-both_got}
+use Rattle.zw_safety_wide.proofs.WideClosed.{closed-then, spread-closed, settled-closed}
+use Rattle.zw_safety_wide.proofs.WideShareRuns.{AreShared, wide_quotient-ends, wide_rest-ends, wide_modulo-ends, wide_floor-ends, wide_exact_quotient-ends}
 use Rattle.zw_safety_wide.proofs.WideTypes.{LongsAreTyped, longs, takes-spread}
-use Rattle.zw_safety_wide.specs.WideBitCode.{both_got, zero_tested, wide_share_code}
+use Rattle.zw_safety_wide.specs.WideBitCode.{zero_tested}
 use Rattle.zw_safety_wide.specs.WideCode.{spread, settled}
 use Rattle.zw_safety_wide.specs.WideOrderCode.{both_unsigned}
-use Rattle.zw_wasm.proofs.RunsCompose.{runs-step}
-use Rattle.zw_wasm.proofs.TypingTakes.{takes-then, takes-instr, takes-local_get}
+use Rattle.zw_safety_wide.specs.WideSignedCode.{are_wide_shares, quotient_of, remainder_of, lacking, lacking_tested, shared, wide_quotient_code, wide_rest_code, across, floored_rest, floored_quotient, wide_modulo_code, wide_floor_code, left_tested, wide_exact_quotient_code}
+use Rattle.zw_session.specs.Causes.{integer_overflow}
+use Rattle.zw_wasm.proofs.TypingTakes.{takes-none, takes-then, takes-instr, takes-local_get, takes-local_set}
 use Rattle.zw_wasm.specs.declared.module.BinaryOperator.{BinaryOperator}
-use Rattle.zw_wasm.specs.declared.module.BinaryOperator.TheVariants.{DivU, RemU}
+use Rattle.zw_wasm.specs.declared.module.BinaryOperator.TheVariants.{Add, Sub, And, Xor, DivS, DivU, RemS, RemU}
+use Rattle.zw_wasm.specs.declared.module.Comparison.TheVariants.{Eq, Ne, LtS}
+use Rattle.zw_wasm.specs.declared.module.Conversion.TheVariants.{ExtendU}
 use Rattle.zw_wasm.specs.declared.module.Instr.{Instr}
-use Rattle.zw_wasm.specs.declared.module.Instr.TheVariants.{LocalGet, IsZero, Binary}
-use Rattle.zw_wasm.specs.declared.module.Module.{Module}
+use Rattle.zw_wasm.specs.declared.module.Instr.TheVariants.{IsZero, Convert}
 use Rattle.zw_wasm.specs.declared.module.ValType.{ValType}
 use Rattle.zw_wasm.specs.declared.module.ValType.TheVariants.{I32 as word, I64 as long}
-use Rattle.zw_wasm.specs.declared.num.Num.{Num}
-use Rattle.zw_wasm.specs.declared.num.Num.TheVariants.{I32, I64}
-use Rattle.zw_wasm.specs.Numerics.{Gives, DividesByZero, binary_of, bit_of}
-use Rattle.zw_wasm.specs.Reduction.{Config}
 use Rattle.zw_wasm.specs.Sequences.{Takes}
-use Rattle.zw_wasm.specs.Signature.{View}
 use Rattle.zw_wasm.specs.Typing.{Context}
 use Rattle.zw_wasm.specs.WellFormed.{IsClosed}
 
--- ---- the divisor
-
-steps-is_zero : (m : Module) (v : View) (c : Config) (n : ℕ) (b : Bool) (os locals : List Num) → nat_eq n 0 ≡ b → Steps m v c (IsZero long ∷ []) (having (I64 n ∷ os) locals) (having (I32 (bit_of b) ∷ os) locals) 1
-steps-is_zero m v c n b os locals e =
-    subst (λ b. Steps m v c (IsZero long ∷ []) (having (I64 n ∷ os) locals) (having (I32 (bit_of b) ∷ os) locals) 1) e
-    (record { by = λ rest. runs-step m v _ _ refl })
-
-some_long : (n : ℕ) → suc n < 2 ^ 64 → nat_eq (pattern 64 (pos (suc n))) 0 ≡ false
-some_long n h = let same : suc n % 2 ^ 64 ≡ suc n = mod-eq_of_lt h in grind (arith, same)
-
--- ---- in 64 bits
-
-divides : (x n : ℕ) → x < 2 ^ 64 → suc n < 2 ^ 64 → binary_of DivU w64 (pattern 64 (pos x)) (pattern 64 (pos (suc n))) ≡ Gives (pattern 64 (pos (x / suc n)))
-divides x n h k =
-    let y = suc n in
-    let less = div-le_self x y in
-    let one : pattern 64 (pos x) ≡ x = mod-eq_of_lt h in
-    let two : pattern 64 (pos y) ≡ y = mod-eq_of_lt k in
-    ap (λ t. if t then DividesByZero else Gives (pattern 64 (pos x) / pattern 64 (pos y))) (some_long n k)
-    ∙ ap (λ z. Gives (z / pattern 64 (pos y))) one ∙ ap (λ z. Gives (x / z)) two ∙ ap (λ z. Gives z) (sym (mod-eq_of_lt (omega (arith, less, h))))
-
-leaves : (x n : ℕ) → x < 2 ^ 64 → suc n < 2 ^ 64 → binary_of RemU w64 (pattern 64 (pos x)) (pattern 64 (pos (suc n))) ≡ Gives (pattern 64 (pos (x % suc n)))
-leaves x n h k =
-    let y = suc n in
-    let less = mod-le x y in
-    let one : pattern 64 (pos x) ≡ x = mod-eq_of_lt h in
-    let two : pattern 64 (pos y) ≡ y = mod-eq_of_lt k in
-    ap (λ t. if t then DividesByZero else Gives (pattern 64 (pos x) % pattern 64 (pos y))) (some_long n k)
-    ∙ ap (λ z. Gives (z % pattern 64 (pos y))) one ∙ ap (λ z. Gives (x % z)) two ∙ ap (λ z. Gives z) (sym (mod-eq_of_lt (omega (arith, less, h))))
-
--- ---- whole codes
-
-share_by_zero : (m : Module) (v : View) (c : Config) (o : BinaryOperator) (s : ℕ) (left right to : IntTy) (a : ℤ) (os : List Num) (rest : List Instr) → IsStored left → IsStored right → IsIn left a → IsIn right (pos 0) → HasScratch s c.frame.locals → HasPanicState c.world.store → EndsOn m v c s left right to a (pos 0) os (wide_share_code o left right to s) rest (Err DivZero)
-share_by_zero m v c o s left right to a os rest hl hr il ir room state =
-    let locals = c.frame.locals in
-    let after = with_operands s (pattern 64 a) (pattern 64 (pos 0)) locals in
-    let has = has-operands s (pattern 64 a) (pattern 64 (pos 0)) locals room in
-    let first = steps-spread m v c left right s a (pos 0) os locals hl hr il ir room in
-    let test = steps-then (steps-get m v c (s + 4) (I64 (pattern 64 (pos 0))) os after has.right) (steps-is_zero m v c (pattern 64 (pos 0)) true os after refl) in
-    let few = first.few in
-    record {
-      taken = first.count + (2 + 8);
-      few = omega (arith, few);
-      halts = (fails-behind first.steps (fails-before (fails-behind test (fails-panics m v c 7 os after state)) (both_got s ++ (Binary long o ∷ settled to)))).by rest;
-    }
-
-some_share : (m : Module) (v : View) (c : Config) (o : BinaryOperator) (s : ℕ) (left right to : IntTy) (a z : ℤ) (n : ℕ) (os : List Num) (rest : List Instr) → IsStored left → IsStored right → IsIn left a → IsIn right (pos (suc n)) → suc n < 2 ^ 64 → HasScratch s c.frame.locals → binary_of o w64 (pattern 64 a) (pattern 64 (pos (suc n))) ≡ Gives (pattern 64 z) → EndsOn m v c s left right to a (pos (suc n)) os (wide_share_code o left right to s) rest (Ok z)
-some_share m v c o s left right to a z n os rest hl hr il ir low room gives =
-    let b = pos (suc n) in
-    let locals = c.frame.locals in
-    let after = with_operands s (pattern 64 a) (pattern 64 b) locals in
-    let has = has-operands s (pattern 64 a) (pattern 64 b) locals room in
-    let test = steps-then (steps-get m v c (s + 4) (I64 (pattern 64 b)) os after has.right) (steps-then (steps-is_zero m v c (pattern 64 b) false os after (some_long n low)) (steps-passed m v c 7 os after)) in
-    brings-value m v c s left right to a b z os (wide_share_code o left right to s) rest 12 (lit≤ tt)
-    (record {
-      after = after;
-      keeps = has.kept;
-      runs = reaches-within (reaches-then (steps-spread m v c left right s a b os locals hl hr il ir room)
-          (reaches-then (reaches test)
-          (reaches-then (reaches (steps-both_got m v c s (pattern 64 a) (pattern 64 b) os locals after has))
-          (reaches-then (reaches (steps-long m v c o (pattern 64 a) (pattern 64 b) (pattern 64 z) os after gives)) (steps-settled m v c to z os after))))) 12 (lit≤ tt);
-    })
-
--- an unsigned quotient is at most the left operand
-quotient_in : (left to : IntTy) (x y : ℕ) → is_unsigned left ≡ true → holds to left ≡ true → IsIn left (pos x) → is_in to (pos (x / y)) ≡ true
-quotient_in (Sized false count) to x y u h i =
-    let less = div-le_self x y in
-    let inside : IsIn (Sized false count) (pos (x / y)) = record { at_least = omega (arith, ints); at_most = omega (arith, ints, i.at_most, less) } in
-    test_from_in to (pos (x / y)) (holds_in to (Sized false count) (pos (x / y)) h inside)
-quotient_in (Sized true count) to x y u h i = absurd (cc)
-quotient_in Comptime to x y u h i = absurd (cc)
-
-taken : (to : IntTy) (z : ℤ) → is_in to z ≡ true → Ok z ≡ exact to z
-taken to z e = sym (ap (λ t. if t then Ok z else Err Overflow) e)
-
-abbrev are_shares : IntTy → IntTy → IntTy → Bool
-are_shares left right to = both_unsigned left right && holds to left
-
-pub wide_quotient-ends : (m : Module) (v : View) (c : Config) (s : ℕ) (left right to : IntTy) (a b : ℤ) (os : List Num) (rest : List Instr) → are_shares left right to ≡ true → IsStored left → IsStored right → IsIn left a → IsIn right b → HasScratch s c.frame.locals → HasPanicState c.world.store → EndsOn m v c s left right to a b os (wide_share_code DivU left right to s) rest (divided b (exact to (truncated a b)))
-wide_quotient-ends m v c s (Sized false count) (Sized false other) to (pos x) (pos zero) os rest e hl hr il ir room state = share_by_zero m v c DivU s (Sized false count) (Sized false other) to (pos x) os rest hl hr il ir room state
-wide_quotient-ends m v c s (Sized false count) (Sized false other) to (pos x) (pos (suc n)) os rest e hl hr il ir room state =
-    let low = natural_low other (suc n) hr ir in
-    subst (λ r. EndsOn m v c s (Sized false count) (Sized false other) to (pos x) (pos (suc n)) os (wide_share_code DivU (Sized false count) (Sized false other) to s) rest r)
-    (taken to (pos (x / suc n)) (quotient_in (Sized false count) to x (suc n) refl (both-true true (holds to (Sized false count)) e).1 il))
-    (some_share m v c DivU s (Sized false count) (Sized false other) to (pos x) (pos (x / suc n)) n os rest hl hr il ir low room (divides x n (natural_low count x hl il) low))
-wide_quotient-ends m v c s (Sized false count) (Sized false other) to (pos x) (negsuc n) os rest e hl hr il ir room state = absurd (omega (arith, ints, ir.at_least))
-wide_quotient-ends m v c s (Sized false count) (Sized false other) to (negsuc x) b os rest e hl hr il ir room state = absurd (omega (arith, ints, il.at_least))
-wide_quotient-ends m v c s (Sized false count) (Sized true other) to a b os rest e hl hr il ir room state = absurd (cc)
-wide_quotient-ends m v c s (Sized false count) Comptime to a b os rest e hl hr il ir room state = absurd hr
-wide_quotient-ends m v c s (Sized true count) right to a b os rest e hl hr il ir room state = absurd (cc)
-wide_quotient-ends m v c s Comptime right to a b os rest e hl hr il ir room state = absurd hl
-
-rest_natural : (x y : ℕ) → pos (x % y) ≡ rest_of (pos x) (pos y) (truncated (pos x) (pos y))
-rest_natural x y = sym (rest_is (pos x) (pos y))
-
-pub wide_rest-ends : (m : Module) (v : View) (c : Config) (s : ℕ) (left right to : IntTy) (a b : ℤ) (os : List Num) (rest : List Instr) → are_shares left right to ≡ true → IsStored left → IsStored right → IsIn left a → IsIn right b → HasScratch s c.frame.locals → HasPanicState c.world.store → EndsOn m v c s left right to a b os (wide_share_code RemU left right to s) rest (divided b (Ok (rest_of a b (truncated a b))))
-wide_rest-ends m v c s (Sized false count) (Sized false other) to (pos x) (pos zero) os rest e hl hr il ir room state = share_by_zero m v c RemU s (Sized false count) (Sized false other) to (pos x) os rest hl hr il ir room state
-wide_rest-ends m v c s (Sized false count) (Sized false other) to (pos x) (pos (suc n)) os rest e hl hr il ir room state =
-    let low = natural_low other (suc n) hr ir in
-    subst (λ r. EndsOn m v c s (Sized false count) (Sized false other) to (pos x) (pos (suc n)) os (wide_share_code RemU (Sized false count) (Sized false other) to s) rest (Ok r))
-    (rest_natural x (suc n))
-    (some_share m v c RemU s (Sized false count) (Sized false other) to (pos x) (pos (x % suc n)) n os rest hl hr il ir low room (leaves x n (natural_low count x hl il) low))
-wide_rest-ends m v c s (Sized false count) (Sized false other) to (pos x) (negsuc n) os rest e hl hr il ir room state = absurd (omega (arith, ints, ir.at_least))
-wide_rest-ends m v c s (Sized false count) (Sized false other) to (negsuc x) b os rest e hl hr il ir room state = absurd (omega (arith, ints, il.at_least))
-wide_rest-ends m v c s (Sized false count) (Sized true other) to a b os rest e hl hr il ir room state = absurd (cc)
-wide_rest-ends m v c s (Sized false count) Comptime to a b os rest e hl hr il ir room state = absurd hr
-wide_rest-ends m v c s (Sized true count) right to a b os rest e hl hr il ir room state = absurd (cc)
-wide_rest-ends m v c s Comptime right to a b os rest e hl hr il ir room state = absurd hl
-
--- the same of numbers rounded down
-pub wide_floor-ends : (m : Module) (v : View) (c : Config) (s : ℕ) (left right to : IntTy) (a b : ℤ) (os : List Num) (rest : List Instr) → are_shares left right to ≡ true → IsStored left → IsStored right → IsIn left a → IsIn right b → HasScratch s c.frame.locals → HasPanicState c.world.store → EndsOn m v c s left right to a b os (wide_share_code DivU left right to s) rest (divided b (exact to (floored a b)))
-wide_floor-ends m v c s (Sized false count) (Sized false other) to (pos x) (pos zero) os rest e hl hr il ir room state = share_by_zero m v c DivU s (Sized false count) (Sized false other) to (pos x) os rest hl hr il ir room state
-wide_floor-ends m v c s (Sized false count) (Sized false other) to (pos x) (pos (suc n)) os rest e hl hr il ir room state =
-    let low = natural_low other (suc n) hr ir in
-    subst (λ r. EndsOn m v c s (Sized false count) (Sized false other) to (pos x) (pos (suc n)) os (wide_share_code DivU (Sized false count) (Sized false other) to s) rest r)
-    (taken to (pos (x / suc n)) (quotient_in (Sized false count) to x (suc n) refl (both-true true (holds to (Sized false count)) e).1 il))
-    (some_share m v c DivU s (Sized false count) (Sized false other) to (pos x) (pos (x / suc n)) n os rest hl hr il ir low room (divides x n (natural_low count x hl il) low))
-wide_floor-ends m v c s (Sized false count) (Sized false other) to (pos x) (negsuc n) os rest e hl hr il ir room state = absurd (omega (arith, ints, ir.at_least))
-wide_floor-ends m v c s (Sized false count) (Sized false other) to (negsuc x) b os rest e hl hr il ir room state = absurd (omega (arith, ints, il.at_least))
-wide_floor-ends m v c s (Sized false count) (Sized true other) to a b os rest e hl hr il ir room state = absurd (cc)
-wide_floor-ends m v c s (Sized false count) Comptime to a b os rest e hl hr il ir room state = absurd hr
-wide_floor-ends m v c s (Sized true count) right to a b os rest e hl hr il ir room state = absurd (cc)
-wide_floor-ends m v c s Comptime right to a b os rest e hl hr il ir room state = absurd hl
-
-pub wide_modulo-ends : (m : Module) (v : View) (c : Config) (s : ℕ) (left right to : IntTy) (a b : ℤ) (os : List Num) (rest : List Instr) → are_shares left right to ≡ true → IsStored left → IsStored right → IsIn left a → IsIn right b → HasScratch s c.frame.locals → HasPanicState c.world.store → EndsOn m v c s left right to a b os (wide_share_code RemU left right to s) rest (divided b (Ok (rest_of a b (floored a b))))
-wide_modulo-ends m v c s (Sized false count) (Sized false other) to (pos x) (pos zero) os rest e hl hr il ir room state = share_by_zero m v c RemU s (Sized false count) (Sized false other) to (pos x) os rest hl hr il ir room state
-wide_modulo-ends m v c s (Sized false count) (Sized false other) to (pos x) (pos (suc n)) os rest e hl hr il ir room state =
-    let low = natural_low other (suc n) hr ir in
-    subst (λ r. EndsOn m v c s (Sized false count) (Sized false other) to (pos x) (pos (suc n)) os (wide_share_code RemU (Sized false count) (Sized false other) to s) rest (Ok r))
-    (rest_natural x (suc n))
-    (some_share m v c RemU s (Sized false count) (Sized false other) to (pos x) (pos (x % suc n)) n os rest hl hr il ir low room (leaves x n (natural_low count x hl il) low))
-wide_modulo-ends m v c s (Sized false count) (Sized false other) to (pos x) (negsuc n) os rest e hl hr il ir room state = absurd (omega (arith, ints, ir.at_least))
-wide_modulo-ends m v c s (Sized false count) (Sized false other) to (negsuc x) b os rest e hl hr il ir room state = absurd (omega (arith, ints, il.at_least))
-wide_modulo-ends m v c s (Sized false count) (Sized true other) to a b os rest e hl hr il ir room state = absurd (cc)
-wide_modulo-ends m v c s (Sized false count) Comptime to a b os rest e hl hr il ir room state = absurd hr
-wide_modulo-ends m v c s (Sized true count) right to a b os rest e hl hr il ir room state = absurd (cc)
-wide_modulo-ends m v c s Comptime right to a b os rest e hl hr il ir room state = absurd hl
-
 -- ---- types
 
-takes-zero : (x : Context) (s : ℕ) (ts : List ValType) → LongsAreTyped s x.locals → PanicStateIsTyped x.module_ → Takes x (zero_tested s) ts ts
+pub takes-zero : (x : Context) (s : ℕ) (ts : List ValType) → LongsAreTyped s x.locals → PanicStateIsTyped x.module_ → Takes x (zero_tested s) ts ts
 takes-zero x s ts h state =
     takes-then (takes-local_get x (s + 4) long ts h.right)
     (takes-then (takes-instr x (IsZero long) (long ∷ ts) (word ∷ ts) (λ below c outer. refl)) (takes-if_panics x 7 ts state))
 
-takes-share : (x : Context) (o : BinaryOperator) (left right to : IntTy) (s : ℕ) (ts : List ValType) → ScratchIsTyped s x.locals → PanicStateIsTyped x.module_ → Takes x (wide_share_code o left right to s) (type_of right ∷ type_of left ∷ ts) (type_of to ∷ ts)
-takes-share x o left right to s ts h state =
-    let there = longs s x.locals h in
-    takes-then (takes-spread x left right s ts there)
-    (takes-then (takes-zero x s ts there state) (takes-then (takes-both_got x s ts there) (takes-then (takes-long x o ts) (takes-settled x to ts))))
+takes-lacking : (x : Context) (to : IntTy) (s : ℕ) (ts : List ValType) → LongsAreTyped s x.locals → Takes x (lacking to s) ts (word ∷ ts)
+takes-lacking x to s ts h =
+    takes-then (takes-local_get x (s + 5) long ts h.left)
+    (takes-then (takes-long_const x (least to) (long ∷ ts))
+    (takes-then (takes-compare_long x Eq ts)
+    (takes-then (takes-local_get x (s + 4) long (word ∷ ts) h.right)
+    (takes-then (takes-long_const x (negsuc 0) (long ∷ word ∷ ts)) (takes-then (takes-compare_long x Eq (word ∷ ts)) (takes-word x And ts))))))
 
-zero-closed : (s : ℕ) → IsClosed (zero_tested s)
+takes-lacking_for : (u : Bool) (x : Context) (to : IntTy) (s : ℕ) (ts : List ValType) → LongsAreTyped s x.locals → PanicStateIsTyped x.module_ → Takes x (if u then [] else lacking to s ++ if_panics integer_overflow) ts ts
+takes-lacking_for true x to s ts h state = takes-none x ts
+takes-lacking_for false x to s ts h state = takes-then (takes-lacking x to s ts h) (takes-if_panics x integer_overflow ts state)
+
+pub takes-shared : (x : Context) (o : BinaryOperator) (s : ℕ) (ts : List ValType) → LongsAreTyped s x.locals → Takes x (shared o s) ts (long ∷ ts)
+takes-shared x o s ts h = takes-then (takes-both_got x s ts h) (takes-long x o ts)
+
+takes-across : (x : Context) (s : ℕ) (ts : List ValType) → LongsAreTyped s x.locals → Takes x (across s) ts (word ∷ ts)
+takes-across x s ts h =
+    takes-then (takes-local_get x (s + 6) long ts h.low)
+    (takes-then (takes-local_get x (s + 4) long (long ∷ ts) h.right)
+    (takes-then (takes-long x Xor ts)
+    (takes-then (takes-long_const x (pos 0) (long ∷ ts))
+    (takes-then (takes-compare_long x LtS ts)
+    (takes-then (takes-local_get x (s + 6) long (word ∷ ts) h.low)
+    (takes-then (takes-long_const x (pos 0) (long ∷ word ∷ ts)) (takes-then (takes-compare_long x Ne (word ∷ ts)) (takes-word x And ts))))))))
+
+takes-floored_rest : (x : Context) (s : ℕ) (ts : List ValType) → LongsAreTyped s x.locals → Takes x (floored_rest s) ts (long ∷ ts)
+takes-floored_rest x s ts h =
+    takes-then (takes-then (takes-shared x RemS s ts h)
+    (takes-then (takes-tee_long x (s + 6) ts h.low)
+    (takes-then (takes-local_get x (s + 4) long (long ∷ ts) h.right) (takes-then (takes-long x Add ts) (takes-local_get x (s + 6) long (long ∷ ts) h.low)))))
+    (takes-then (takes-across x s (long ∷ long ∷ ts) h) (takes-select_long x ts))
+
+takes-extend_u : (x : Context) (ts : List ValType) → Takes x (Convert ExtendU ∷ []) (word ∷ ts) (long ∷ ts)
+takes-extend_u x ts = takes-instr x (Convert ExtendU) (word ∷ ts) (long ∷ ts) (λ below c outer. refl)
+
+takes-floored_quotient : (x : Context) (s : ℕ) (ts : List ValType) → LongsAreTyped s x.locals → Takes x (floored_quotient s) ts (long ∷ ts)
+takes-floored_quotient x s ts h =
+    takes-then (takes-then (takes-shared x RemS s ts h) (takes-local_set x (s + 6) long ts h.low))
+    (takes-then (takes-shared x DivS s ts h)
+    (takes-then (takes-across x s (long ∷ ts) h) (takes-then (takes-extend_u x (long ∷ ts)) (takes-long x Sub ts))))
+
+takes-either : (u : Bool) (x : Context) (is js : List Instr) (ts us : List ValType) → Takes x is ts us → Takes x js ts us → Takes x (if u then is else js) ts us
+takes-either true x is js ts us a b = a
+takes-either false x is js ts us a b = b
+
+takes-left : (x : Context) (o : BinaryOperator) (s : ℕ) (ts : List ValType) → LongsAreTyped s x.locals → PanicStateIsTyped x.module_ → Takes x (left_tested o s) ts ts
+takes-left x o s ts h state =
+    takes-then (takes-shared x o s ts h)
+    (takes-then (takes-long_const x (pos 0) (long ∷ ts)) (takes-then (takes-compare_long x Ne ts) (takes-if_panics x 8 ts state)))
+
+-- behind both operands and the test of the divisor
+takes-divided : (x : Context) (left right to : IntTy) (s : ℕ) (ts : List ValType) (js : List Instr) → LongsAreTyped s x.locals → PanicStateIsTyped x.module_ → Takes x js ts (type_of to ∷ ts) → Takes x (spread left right s ++ (zero_tested s ++ js)) (type_of right ∷ type_of left ∷ ts) (type_of to ∷ ts)
+takes-divided x left right to s ts js h state takes = takes-then (takes-spread x left right s ts h) (takes-then (takes-zero x s ts h state) takes)
+
+takes-quotient : (x : Context) (left right to : IntTy) (s : ℕ) (ts : List ValType) → LongsAreTyped s x.locals → PanicStateIsTyped x.module_ → Takes x (wide_quotient_code left right to s) (type_of right ∷ type_of left ∷ ts) (type_of to ∷ ts)
+takes-quotient x left right to s ts h state =
+    takes-divided x left right to s ts (lacking_tested left right to s ++ (shared (quotient_of left right) s ++ settled to)) h state
+    (takes-then (takes-lacking_for (both_unsigned left right) x to s ts h state) (takes-then (takes-shared x (quotient_of left right) s ts h) (takes-settled x to ts)))
+
+takes-rest : (x : Context) (left right to : IntTy) (s : ℕ) (ts : List ValType) → LongsAreTyped s x.locals → PanicStateIsTyped x.module_ → Takes x (wide_rest_code left right to s) (type_of right ∷ type_of left ∷ ts) (type_of to ∷ ts)
+takes-rest x left right to s ts h state =
+    takes-divided x left right to s ts (shared (remainder_of left right) s ++ settled to) h state (takes-then (takes-shared x (remainder_of left right) s ts h) (takes-settled x to ts))
+
+takes-modulo : (x : Context) (left right to : IntTy) (s : ℕ) (ts : List ValType) → LongsAreTyped s x.locals → PanicStateIsTyped x.module_ → Takes x (wide_modulo_code left right to s) (type_of right ∷ type_of left ∷ ts) (type_of to ∷ ts)
+takes-modulo x left right to s ts h state =
+    takes-divided x left right to s ts ((if both_unsigned left right then shared RemU s else floored_rest s) ++ settled to) h state
+    (takes-then (takes-either (both_unsigned left right) x (shared RemU s) (floored_rest s) ts (long ∷ ts) (takes-shared x RemU s ts h) (takes-floored_rest x s ts h)) (takes-settled x to ts))
+
+takes-floor : (x : Context) (left right to : IntTy) (s : ℕ) (ts : List ValType) → LongsAreTyped s x.locals → PanicStateIsTyped x.module_ → Takes x (wide_floor_code left right to s) (type_of right ∷ type_of left ∷ ts) (type_of to ∷ ts)
+takes-floor x left right to s ts h state =
+    takes-divided x left right to s ts (lacking_tested left right to s ++ ((if both_unsigned left right then shared DivU s else floored_quotient s) ++ settled to)) h state
+    (takes-then (takes-lacking_for (both_unsigned left right) x to s ts h state)
+    (takes-then (takes-either (both_unsigned left right) x (shared DivU s) (floored_quotient s) ts (long ∷ ts) (takes-shared x DivU s ts h) (takes-floored_quotient x s ts h)) (takes-settled x to ts)))
+
+takes-exact : (x : Context) (left right to : IntTy) (s : ℕ) (ts : List ValType) → LongsAreTyped s x.locals → PanicStateIsTyped x.module_ → Takes x (wide_exact_quotient_code left right to s) (type_of right ∷ type_of left ∷ ts) (type_of to ∷ ts)
+takes-exact x left right to s ts h state =
+    takes-divided x left right to s ts (lacking_tested left right to s ++ (left_tested (remainder_of left right) s ++ (shared (quotient_of left right) s ++ settled to))) h state
+    (takes-then (takes-lacking_for (both_unsigned left right) x to s ts h state)
+    (takes-then (takes-left x (remainder_of left right) s ts h state) (takes-then (takes-shared x (quotient_of left right) s ts h) (takes-settled x to ts))))
+
+-- ---- it ends all that it begins
+
+pub zero-closed : (s : ℕ) → IsClosed (zero_tested s)
 zero-closed s = record { by = λ open_ifs rest h. h }
 
-share-closed : (o : BinaryOperator) (left right to : IntTy) (s : ℕ) → IsClosed (wide_share_code o left right to s)
-share-closed o left right to s = closed-then (spread-closed left right s) (closed-then (zero-closed s) (closed-then (both_got-closed s) (closed-then (long-closed o) (settled-closed to))))
+lacking_for-closed : (u : Bool) (to : IntTy) (s : ℕ) → IsClosed (if u then [] else lacking to s ++ if_panics integer_overflow)
+lacking_for-closed true to s = record { by = λ open_ifs rest h. h }
+lacking_for-closed false to s = record { by = λ open_ifs rest h. h }
+
+pub shared-closed : (o : BinaryOperator) (s : ℕ) → IsClosed (shared o s)
+shared-closed o s = record { by = λ open_ifs rest h. h }
+
+modulo_for-closed : (u : Bool) (s : ℕ) → IsClosed (if u then shared RemU s else floored_rest s)
+modulo_for-closed true s = record { by = λ open_ifs rest h. h }
+modulo_for-closed false s = record { by = λ open_ifs rest h. h }
+
+floor_for-closed : (u : Bool) (s : ℕ) → IsClosed (if u then shared DivU s else floored_quotient s)
+floor_for-closed true s = record { by = λ open_ifs rest h. h }
+floor_for-closed false s = record { by = λ open_ifs rest h. h }
+
+left-closed : (o : BinaryOperator) (s : ℕ) → IsClosed (left_tested o s)
+left-closed o s = record { by = λ open_ifs rest h. h }
+
+divided-closed : (left right : IntTy) (s : ℕ) (js : List Instr) → IsClosed js → IsClosed (spread left right s ++ (zero_tested s ++ js))
+divided-closed left right s js h = closed-then (spread-closed left right s) (closed-then (zero-closed s) h)
 
 -- ---- the operators
 
-pub wide_div-right : (left right to : IntTy) (s : ℕ) → AreStored left right to → are_shares left right to ≡ true → IsRight DIV left right to s (wide_share_code DivU left right to s)
+shared_from : (left right to : IntTy) (a b : ℤ) → AreStored left right to → are_wide_shares left right to ≡ true → IsIn left a → IsIn right b → AreShared left right to a b
+shared_from left right to a b h e il ir = record { left_stored = h.left_stored; right_stored = h.right_stored; to_stored = h.to_stored; left_in = il; right_in = ir; served = e }
+
+pub wide_div-right : (left right to : IntTy) (s : ℕ) → AreStored left right to → are_wide_shares left right to ≡ true → IsRight DIV left right to s (wide_quotient_code left right to s)
 wide_div-right left right to s h e = record {
-  ends = λ m v c a b os rest il ir scratch state. wide_quotient-ends m v c s left right to a b os rest e h.left_stored h.right_stored il ir (scratch refl) state;
-  typed = λ x ts scratch state. takes-share x DivU left right to s ts (scratch refl) state;
-  closed = share-closed DivU left right to s;
+  ends = λ m v c a b os rest il ir scratch state. wide_quotient-ends m v c s left right to a b os rest (shared_from left right to a b h e il ir) (scratch refl) state;
+  typed = λ x ts scratch state. takes-quotient x left right to s ts (longs s x.locals (scratch refl)) state;
+  closed = divided-closed left right s (lacking_tested left right to s ++ (shared (quotient_of left right) s ++ settled to)) (closed-then (lacking_for-closed (both_unsigned left right) to s) (closed-then (shared-closed (quotient_of left right) s) (settled-closed to)));
 }
 
-pub wide_div_trunc-right : (left right to : IntTy) (s : ℕ) → AreStored left right to → are_shares left right to ≡ true → IsRight DIV_TRUNC left right to s (wide_share_code DivU left right to s)
+pub wide_div_trunc-right : (left right to : IntTy) (s : ℕ) → AreStored left right to → are_wide_shares left right to ≡ true → IsRight DIV_TRUNC left right to s (wide_quotient_code left right to s)
 wide_div_trunc-right left right to s h e = record {
-  ends = λ m v c a b os rest il ir scratch state. wide_quotient-ends m v c s left right to a b os rest e h.left_stored h.right_stored il ir (scratch refl) state;
-  typed = λ x ts scratch state. takes-share x DivU left right to s ts (scratch refl) state;
-  closed = share-closed DivU left right to s;
+  ends = λ m v c a b os rest il ir scratch state. wide_quotient-ends m v c s left right to a b os rest (shared_from left right to a b h e il ir) (scratch refl) state;
+  typed = λ x ts scratch state. takes-quotient x left right to s ts (longs s x.locals (scratch refl)) state;
+  closed = divided-closed left right s (lacking_tested left right to s ++ (shared (quotient_of left right) s ++ settled to)) (closed-then (lacking_for-closed (both_unsigned left right) to s) (closed-then (shared-closed (quotient_of left right) s) (settled-closed to)));
 }
 
-pub wide_rem-right : (left right to : IntTy) (s : ℕ) → AreStored left right to → are_shares left right to ≡ true → IsRight REM left right to s (wide_share_code RemU left right to s)
+pub wide_rem-right : (left right to : IntTy) (s : ℕ) → AreStored left right to → are_wide_shares left right to ≡ true → IsRight REM left right to s (wide_rest_code left right to s)
 wide_rem-right left right to s h e = record {
-  ends = λ m v c a b os rest il ir scratch state. wide_rest-ends m v c s left right to a b os rest e h.left_stored h.right_stored il ir (scratch refl) state;
-  typed = λ x ts scratch state. takes-share x RemU left right to s ts (scratch refl) state;
-  closed = share-closed RemU left right to s;
+  ends = λ m v c a b os rest il ir scratch state. wide_rest-ends m v c s left right to a b os rest (shared_from left right to a b h e il ir) (scratch refl) state;
+  typed = λ x ts scratch state. takes-rest x left right to s ts (longs s x.locals (scratch refl)) state;
+  closed = divided-closed left right s (shared (remainder_of left right) s ++ settled to) (closed-then (shared-closed (remainder_of left right) s) (settled-closed to));
 }
 
-pub wide_rem_trunc-right : (left right to : IntTy) (s : ℕ) → AreStored left right to → are_shares left right to ≡ true → IsRight REM_TRUNC left right to s (wide_share_code RemU left right to s)
+pub wide_rem_trunc-right : (left right to : IntTy) (s : ℕ) → AreStored left right to → are_wide_shares left right to ≡ true → IsRight REM_TRUNC left right to s (wide_rest_code left right to s)
 wide_rem_trunc-right left right to s h e = record {
-  ends = λ m v c a b os rest il ir scratch state. wide_rest-ends m v c s left right to a b os rest e h.left_stored h.right_stored il ir (scratch refl) state;
-  typed = λ x ts scratch state. takes-share x RemU left right to s ts (scratch refl) state;
-  closed = share-closed RemU left right to s;
+  ends = λ m v c a b os rest il ir scratch state. wide_rest-ends m v c s left right to a b os rest (shared_from left right to a b h e il ir) (scratch refl) state;
+  typed = λ x ts scratch state. takes-rest x left right to s ts (longs s x.locals (scratch refl)) state;
+  closed = divided-closed left right s (shared (remainder_of left right) s ++ settled to) (closed-then (shared-closed (remainder_of left right) s) (settled-closed to));
 }
 
-pub wide_div_floor-right : (left right to : IntTy) (s : ℕ) → AreStored left right to → are_shares left right to ≡ true → IsRight DIV_FLOOR left right to s (wide_share_code DivU left right to s)
-wide_div_floor-right left right to s h e = record {
-  ends = λ m v c a b os rest il ir scratch state. wide_floor-ends m v c s left right to a b os rest e h.left_stored h.right_stored il ir (scratch refl) state;
-  typed = λ x ts scratch state. takes-share x DivU left right to s ts (scratch refl) state;
-  closed = share-closed DivU left right to s;
-}
-
-pub wide_mod-right : (left right to : IntTy) (s : ℕ) → AreStored left right to → are_shares left right to ≡ true → IsRight MOD left right to s (wide_share_code RemU left right to s)
+pub wide_mod-right : (left right to : IntTy) (s : ℕ) → AreStored left right to → are_wide_shares left right to ≡ true → IsRight MOD left right to s (wide_modulo_code left right to s)
 wide_mod-right left right to s h e = record {
-  ends = λ m v c a b os rest il ir scratch state. wide_modulo-ends m v c s left right to a b os rest e h.left_stored h.right_stored il ir (scratch refl) state;
-  typed = λ x ts scratch state. takes-share x RemU left right to s ts (scratch refl) state;
-  closed = share-closed RemU left right to s;
+  ends = λ m v c a b os rest il ir scratch state. wide_modulo-ends m v c s left right to a b os rest (shared_from left right to a b h e il ir) (scratch refl) state;
+  typed = λ x ts scratch state. takes-modulo x left right to s ts (longs s x.locals (scratch refl)) state;
+  closed = divided-closed left right s ((if both_unsigned left right then shared RemU s else floored_rest s) ++ settled to) (closed-then (modulo_for-closed (both_unsigned left right) s) (settled-closed to));
+}
+
+pub wide_div_floor-right : (left right to : IntTy) (s : ℕ) → AreStored left right to → are_wide_shares left right to ≡ true → IsRight DIV_FLOOR left right to s (wide_floor_code left right to s)
+wide_div_floor-right left right to s h e = record {
+  ends = λ m v c a b os rest il ir scratch state. wide_floor-ends m v c s left right to a b os rest (shared_from left right to a b h e il ir) (scratch refl) state;
+  typed = λ x ts scratch state. takes-floor x left right to s ts (longs s x.locals (scratch refl)) state;
+  closed = divided-closed left right s (lacking_tested left right to s ++ ((if both_unsigned left right then shared DivU s else floored_quotient s) ++ settled to)) (closed-then (lacking_for-closed (both_unsigned left right) to s) (closed-then (floor_for-closed (both_unsigned left right) s) (settled-closed to)));
+}
+
+pub wide_div_exact-right : (left right to : IntTy) (s : ℕ) → AreStored left right to → are_wide_shares left right to ≡ true → IsRight DIV_EXACT left right to s (wide_exact_quotient_code left right to s)
+wide_div_exact-right left right to s h e = record {
+  ends = λ m v c a b os rest il ir scratch state. wide_exact_quotient-ends m v c s left right to a b os rest (shared_from left right to a b h e il ir) (scratch refl) state;
+  typed = λ x ts scratch state. takes-exact x left right to s ts (longs s x.locals (scratch refl)) state;
+  closed = divided-closed left right s (lacking_tested left right to s ++ (left_tested (remainder_of left right) s ++ (shared (quotient_of left right) s ++ settled to))) (closed-then (lacking_for-closed (both_unsigned left right) to s) (closed-then (left-closed (remainder_of left right) s) (closed-then (shared-closed (quotient_of left right) s) (settled-closed to))));
 }

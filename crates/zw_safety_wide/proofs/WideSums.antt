@@ -80,12 +80,12 @@ not_so true e = absurd (cc)
 not_so false e = refl
 
 -- types that are all unsigned
-record AreUnsigned (left right to : IntTy) : Type 0 where
+pub record AreUnsigned (left right to : IntTy) : Type 0 where
   pub left_is : is_signed left ≡ false
   pub right_is : is_signed right ≡ false
   pub to_is : to ≡ Sized false 64
 
-record AreSigned (left right to : IntTy) : Type 0 where
+pub record AreSigned (left right to : IntTy) : Type 0 where
   pub left_is : is_signed left ≡ true
   pub right_is : is_signed right ≡ true
   pub to_is : to ≡ Sized true 64
@@ -100,7 +100,7 @@ signed_long (Sized true count) h e f = ap (λ n. Sized true n) (eqb-true count 6
 signed_long (Sized false count) h e f = absurd (cc)
 signed_long Comptime h e f = absurd h
 
-are-unsigned : (left right to : IntTy) → IsStored to → all_unsigned left right to ≡ true → AreUnsigned left right to
+pub are-unsigned : (left right to : IntTy) → IsStored to → all_unsigned left right to ≡ true → AreUnsigned left right to
 are-unsigned left right to h e =
     let one = both_true (not (is_signed left)) (not (is_signed right) && (not (is_signed to) && nat_eq (width to) 64)) e in
     let two = both_true (not (is_signed right)) (not (is_signed to) && nat_eq (width to) 64) one.1 in
@@ -111,20 +111,20 @@ are-unsigned left right to h e =
       to_is = unsigned_long to h (not_so (is_signed to) three.0) three.1;
     }
 
-are-signed : (left right to : IntTy) → IsStored to → all_signed left right to ≡ true → AreSigned left right to
+pub are-signed : (left right to : IntTy) → IsStored to → all_signed left right to ≡ true → AreSigned left right to
 are-signed left right to h e =
     let one = both_true (is_signed left) (is_signed right && (is_signed to && nat_eq (width to) 64)) e in
     let two = both_true (is_signed right) (is_signed to && nat_eq (width to) 64) one.1 in
     let three = both_true (is_signed to) (nat_eq (width to) 64) two.1 in
     record { left_is = one.0; right_is = two.0; to_is = signed_long to h three.0 three.1 }
 
-steps-long_less : (m : Module) (v : View) (c : Config) (n k x y : ℕ) (b : Bool) (os locals : List Num) → slice_get locals n ≡ Some (I64 x) → slice_get locals k ≡ Some (I64 y) → nat_lt x y ≡ b → Reaches m v c (long_less n k) (having os locals) (having (I32 (bit_of b) ∷ os) locals) 3
+pub steps-long_less : (m : Module) (v : View) (c : Config) (n k x y : ℕ) (b : Bool) (os locals : List Num) → slice_get locals n ≡ Some (I64 x) → slice_get locals k ≡ Some (I64 y) → nat_lt x y ≡ b → Reaches m v c (long_less n k) (having os locals) (having (I32 (bit_of b) ∷ os) locals) 3
 steps-long_less m v c n k x y b os locals e f is =
     reaches (steps-then (steps-get m v c n (I64 x) os locals e)
     (steps-then (steps-get m v c k (I64 y) (I64 x ∷ os) locals f) (steps-compare_long m v c LtU x y b os locals is)))
 
 -- by how the right operand compares with 0, and the low word, read with its sign, with the left one
-steps-crossed : (m : Module) (v : View) (c : Config) (o : Comparison) (s : ℕ) (a b : ℤ) (low : ℕ) (p q t : Bool) (os before locals : List Num) → HasLow s before locals (pattern 64 a) (pattern 64 b) low → is_related o w64 (pattern 64 b) 0 ≡ p → is_related LtS w64 low (pattern 64 a) ≡ q → differ p q ≡ t → Reaches m v c (crossed o s) (having os locals) (having (I32 (bit_of t) ∷ os) locals) 7
+pub steps-crossed : (m : Module) (v : View) (c : Config) (o : Comparison) (s : ℕ) (a b : ℤ) (low : ℕ) (p q t : Bool) (os before locals : List Num) → HasLow s before locals (pattern 64 a) (pattern 64 b) low → is_related o w64 (pattern 64 b) 0 ≡ p → is_related LtS w64 low (pattern 64 a) ≡ q → differ p q ≡ t → Reaches m v c (crossed o s) (having os locals) (having (I32 (bit_of t) ∷ os) locals) 7
 steps-crossed m v c o s a b low p q t os before locals has one two three =
     let x = pattern 64 a in
     let y = pattern 64 b in

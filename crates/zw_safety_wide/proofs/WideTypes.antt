@@ -79,7 +79,7 @@ takes-narrowed_long x (Sized true count) ts =
 takes-narrowed_long x (Sized false count) ts = takes-then (takes-long_const x _ (I64 ∷ ts)) (takes-long x And ts)
 takes-narrowed_long x Comptime ts = takes-none x (I64 ∷ ts)
 
-if_shorter-for : (b : Bool) (x : Context) (to : IntTy) (ts : List ValType) → Takes x (if b then narrowed_long to else []) (I64 ∷ ts) (I64 ∷ ts)
+pub if_shorter-for : (b : Bool) (x : Context) (to : IntTy) (ts : List ValType) → Takes x (if b then narrowed_long to else []) (I64 ∷ ts) (I64 ∷ ts)
 if_shorter-for true x to ts = takes-narrowed_long x to ts
 if_shorter-for false x to ts = takes-none x (I64 ∷ ts)
 
@@ -114,18 +114,18 @@ takes-carry : (x : Context) (n k : ℕ) (ts : List ValType) → slice_get x.loca
 takes-carry x n k ts e f =
     takes-then (takes-local_get x n I64 ts e) (takes-then (takes-local_get x k I64 (I64 ∷ ts) f) (takes-then (takes-compare_long x LtU ts) (takes-extend_u x ts)))
 
-takes-low_word : (x : Context) (o : BinaryOperator) (s : ℕ) (ts : List ValType) → LongsAreTyped s x.locals → Takes x (low_word o s) ts ts
+pub takes-low_word : (x : Context) (o : BinaryOperator) (s : ℕ) (ts : List ValType) → LongsAreTyped s x.locals → Takes x (low_word o s) ts ts
 takes-low_word x o s ts h =
     takes-then (takes-local_get x (s + 5) I64 ts h.left)
     (takes-then (takes-local_get x (s + 4) I64 (I64 ∷ ts) h.right) (takes-then (takes-long x o ts) (takes-local_set x (s + 6) I64 ts h.low)))
 
-takes-sum_words : (x : Context) (left right : IntTy) (s : ℕ) (ts : List ValType) → LongsAreTyped s x.locals → Takes x (sum_words left right s) ts (I64 ∷ ts)
+pub takes-sum_words : (x : Context) (left right : IntTy) (s : ℕ) (ts : List ValType) → LongsAreTyped s x.locals → Takes x (sum_words left right s) ts (I64 ∷ ts)
 takes-sum_words x left right s ts h =
     takes-then (takes-low_word x Add s ts h)
     (takes-then (takes-carry x (s + 6) (s + 4) ts h.low h.right)
     (takes-then (takes-raised x Add left (s + 5) ts h.left) (takes-raised x Add right (s + 4) ts h.right)))
 
-takes-difference_words : (x : Context) (left right : IntTy) (s : ℕ) (ts : List ValType) → LongsAreTyped s x.locals → Takes x (difference_words left right s) ts (I64 ∷ ts)
+pub takes-difference_words : (x : Context) (left right : IntTy) (s : ℕ) (ts : List ValType) → LongsAreTyped s x.locals → Takes x (difference_words left right s) ts (I64 ∷ ts)
 takes-difference_words x left right s ts h =
     takes-then (takes-low_word x Sub s ts h)
     (takes-then (takes-high_of x left (s + 5) ts h.left)
@@ -175,7 +175,7 @@ takes-corrected x (Sized true count) n k ts e f =
 takes-corrected x (Sized false count) n k ts e f = takes-none x (I64 ∷ ts)
 takes-corrected x Comptime n k ts e f = takes-none x (I64 ∷ ts)
 
-takes-product_words : (x : Context) (left right : IntTy) (s : ℕ) (ts : List ValType) → LongsAreTyped s x.locals → Takes x (product_words left right s) ts (I64 ∷ ts)
+pub takes-product_words : (x : Context) (left right : IntTy) (s : ℕ) (ts : List ValType) → LongsAreTyped s x.locals → Takes x (product_words left right s) ts (I64 ∷ ts)
 takes-product_words x left right s ts h =
     takes-then (takes-low_word x Mul s ts h)
     (takes-then (takes-middle x s ts h)
@@ -192,7 +192,7 @@ beyond-for : (b : Bool) (x : Context) (to : IntTy) (n : ℕ) (ts : List ValType)
 beyond-for true x to n ts e = takes-beyond x to n ts e
 beyond-for false x to n ts e = takes-none x (I32 ∷ ts)
 
-takes-outside : (x : Context) (to : IntTy) (n : ℕ) (ts : List ValType) → slice_get x.locals n ≡ Some I64 → Takes x (outside to n) (I64 ∷ ts) (I32 ∷ ts)
+pub takes-outside : (x : Context) (to : IntTy) (n : ℕ) (ts : List ValType) → slice_get x.locals n ≡ Some I64 → Takes x (outside to n) (I64 ∷ ts) (I32 ∷ ts)
 takes-outside x to n ts e =
     takes-then (takes-high_of x to n (I64 ∷ ts) e) (takes-then (takes-compare_long x Ne ts) (beyond-for (nat_lt (width to) 64) x to n ts e))
 
@@ -201,14 +201,14 @@ takes-tested x to s ts h state =
     takes-then (takes-if_panics x integer_overflow ts state)
     (takes-then (takes-local_get x (s + 6) I64 ts h.low) (settled-for (fills_word to) x ts))
 
-takes-long_less : (x : Context) (n k : ℕ) (ts : List ValType) → slice_get x.locals n ≡ Some I64 → slice_get x.locals k ≡ Some I64 → Takes x (long_less n k) ts (I32 ∷ ts)
+pub takes-long_less : (x : Context) (n k : ℕ) (ts : List ValType) → slice_get x.locals n ≡ Some I64 → slice_get x.locals k ≡ Some I64 → Takes x (long_less n k) ts (I32 ∷ ts)
 takes-long_less x n k ts e f =
     takes-then (takes-local_get x n I64 ts e) (takes-then (takes-local_get x k I64 (I64 ∷ ts) f) (takes-compare_long x LtU ts))
 
 takes-differ : (x : Context) (ts : List ValType) → Takes x (Compare I32 Ne ∷ []) (I32 ∷ I32 ∷ ts) (I32 ∷ ts)
 takes-differ x ts = takes-instr x (Compare I32 Ne) (I32 ∷ I32 ∷ ts) (I32 ∷ ts) (λ below c outer. refl)
 
-takes-crossed : (x : Context) (o : Comparison) (s : ℕ) (ts : List ValType) → LongsAreTyped s x.locals → Takes x (crossed o s) ts (I32 ∷ ts)
+pub takes-crossed : (x : Context) (o : Comparison) (s : ℕ) (ts : List ValType) → LongsAreTyped s x.locals → Takes x (crossed o s) ts (I32 ∷ ts)
 takes-crossed x o s ts h =
     takes-then (takes-local_get x (s + 4) I64 ts h.right)
     (takes-then (takes-long_const x (pos 0) (I64 ∷ ts))

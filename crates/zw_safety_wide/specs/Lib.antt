@@ -2,3 +2,8 @@ pub mod WideCode
 pub mod WideBitCode
 pub mod WideOrderCode
 pub mod WideCastCode
+pub mod WideSignedCode
+pub mod WideSaturatingCode
+pub mod WideShiftCode
+pub mod WideTruthCode
+pub mod WideReversalCode

@@ -69,12 +69,8 @@ zero_spread from scratch = widened from ++ (LocalSet (scratch + 4) ∷ I64Const 
 abbrev pub wide_opposite_code : IntTy → IntTy → ℕ → List Instr
 wide_opposite_code from to scratch = zero_spread from scratch ++ (difference_test from from to scratch ++ tested to scratch)
 
--- ---- quotients and rests of unsigned numbers
+-- ---- the divisor of quotients and rests
 
 -- a panic where the right operand, which is in a local, is 0
 abbrev pub zero_tested : ℕ → List Instr
 zero_tested scratch = LocalGet (scratch + 4) ∷ IsZero I64 ∷ if_panics 7
-
-abbrev pub wide_share_code : BinaryOperator → IntTy → IntTy → IntTy → ℕ → List Instr
-wide_share_code operator left right to scratch =
-    spread left right scratch ++ (zero_tested scratch ++ (both_got scratch ++ (Binary I64 operator ∷ settled to)))

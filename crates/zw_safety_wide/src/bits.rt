@@ -1,7 +1,7 @@
 // The code of operators on bits, of shifts, and of operators of one operand where a type has more than 32 bits.
 ghost use Rattle.std.specs.Prelude.{◌≡◌, ◌≤◌, ◌++◌, OnOk};
 ghost use Rattle.zw_num.specs.Arithmetic.{width};
-ghost use Rattle.zw_safety_wide.specs.WideBitCode.{wide_word_code, both_got, are_wide_amounts, far_tested, wide_amount, wide_left_code, wide_right_code, wide_minus_one, wide_same_code, wide_truncated_code, zero_spread, wide_opposite_code, zero_tested, wide_share_code};
+ghost use Rattle.zw_safety_wide.specs.WideBitCode.{wide_word_code, both_got, are_wide_amounts, far_tested, wide_amount, wide_left_code, wide_right_code, wide_minus_one, wide_same_code, wide_truncated_code, zero_spread, wide_opposite_code, zero_tested};
 ghost use Rattle.zw_safety_wide.specs.WideCode.{widened, settled, both_widened, spread, wide_fitted, difference_test, tested};
 
 use crate::wide::{
@@ -93,7 +93,7 @@ fn push_wide_amount(
 }
 
 /// Appends code that panics where the right operand, which is in a local, isn't below the width.
-fn push_far_tested(width: u8, scratch: u32, out: &mut Vec<Instr>) -> Result<(), AllocError>
+pub fn push_far_tested(width: u8, scratch: u32, out: &mut Vec<Instr>) -> Result<(), AllocError>
     requires { scratch ≤ 4294967287 }
     ensures { OnOk result (out.new.items ≡ out.old.items ++ far_tested width scratch) }
 {
@@ -103,28 +103,8 @@ fn push_far_tested(width: u8, scratch: u32, out: &mut Vec<Instr>) -> Result<(), 
     push_if_panics(SHIFT_AMOUNT, out)
 }
 
-/// Appends the code of a quotient or a rest of unsigned numbers.
-pub fn push_wide_share(
-    operator: BinaryOperator,
-    left: IntTy,
-    right: IntTy,
-    to: IntTy,
-    scratch: u32,
-    out: &mut Vec<Instr>,
-) -> Result<(), AllocError>
-    requires { scratch ≤ 4294967287 }
-    ensures { OnOk result (out.new.items ≡ out.old.items ++ wide_share_code operator left right to scratch) }
-{
-    push_spread(left, right, scratch, out)?;
-    push_zero_tested(scratch, out)?;
-    push_both_got(scratch, out)?;
-    out.push(Instr::Binary(ValType::I64, operator))?;
-    push_settled(to, out)?;
-    Ok(())
-}
-
 /// Appends code that panics where the right operand, which is in a local, is 0.
-fn push_zero_tested(scratch: u32, out: &mut Vec<Instr>) -> Result<(), AllocError>
+pub fn push_zero_tested(scratch: u32, out: &mut Vec<Instr>) -> Result<(), AllocError>
     requires { scratch ≤ 4294967287 }
     ensures { OnOk result (out.new.items ≡ out.old.items ++ zero_tested scratch) }
 {
@@ -144,7 +124,7 @@ pub fn push_both_got(scratch: u32, out: &mut Vec<Instr>) -> Result<(), AllocErro
 }
 
 /// Whether each value of the type is below the width.
-fn are_wide_amounts(ty: IntTy, width: u8) -> bool
+pub fn are_wide_amounts(ty: IntTy, width: u8) -> bool
     ensures { result ≡ are_wide_amounts ty width }
 {
     match ty {

@@ -184,7 +184,7 @@ fn push_top_tested(bits: u8, scratch: u32, out: &mut Vec<Instr>) -> Result<(), A
 }
 
 /// The greatest value of the signed type of so many bits.
-fn greatest_signed(bits: u8) -> i64
+pub fn greatest_signed(bits: u8) -> i64
     requires { bits ≤ 64 }
     ensures { result ≡ pos ((2 ^ bits - 1) / 2) }
 {

@@ -154,7 +154,7 @@ fn signed_local(left: IntTy, scratch: u32) -> u32
 }
 
 /// Whether the values of both types are those of an `i64`, read with its sign.
-fn both_fit(left: IntTy, right: IntTy) -> bool
+pub fn both_fit(left: IntTy, right: IntTy) -> bool
     ensures { result ≡ both_fit left right }
 {
     fits_signed_long(left) && fits_signed_long(right)
@@ -172,7 +172,7 @@ fn fits_signed_long(ty: IntTy) -> bool
 }
 
 /// Whether both types are unsigned.
-fn both_unsigned(left: IntTy, right: IntTy) -> bool
+pub fn both_unsigned(left: IntTy, right: IntTy) -> bool
     ensures { result ≡ both_unsigned left right }
 {
     is_unsigned(left) && is_unsigned(right)

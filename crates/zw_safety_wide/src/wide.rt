@@ -186,7 +186,7 @@ fn push_if_narrower(to: IntTy, out: &mut Vec<Instr>) -> Result<(), AllocError>
 }
 
 /// Appends the same in 64 bits, where the type has fewer.
-fn push_if_shorter(to: IntTy, out: &mut Vec<Instr>) -> Result<(), AllocError>
+pub fn push_if_shorter(to: IntTy, out: &mut Vec<Instr>) -> Result<(), AllocError>
     ensures { OnOk result (out.new.items ≡ out.old.items ++ (if nat_lt (width to) 64 then narrowed_long to else [])) }
 {
     match to {
@@ -210,7 +210,7 @@ fn push_narrowed_long(signed: bool, bits: u8, out: &mut Vec<Instr>) -> Result<()
 }
 
 /// Appends an operator with a constant as its right operand.
-fn push_long_moved(
+pub fn push_long_moved(
     number: i64,
     operator: BinaryOperator,
     out: &mut Vec<Instr>,
@@ -277,7 +277,7 @@ fn push_raised(
 }
 
 /// Appends code that puts the low word of the result into a local.
-fn push_low_word(
+pub fn push_low_word(
     operator: BinaryOperator,
     scratch: u32,
     out: &mut Vec<Instr>,
@@ -304,7 +304,7 @@ fn push_carry(local: u32, other: u32, out: &mut Vec<Instr>) -> Result<(), AllocE
 }
 
 /// Appends code that puts the low word of a sum into a local, and leaves the high one.
-fn push_sum_words(
+pub fn push_sum_words(
     left: IntTy,
     right: IntTy,
     scratch: u32,
@@ -320,7 +320,7 @@ fn push_sum_words(
 }
 
 /// Appends code that puts the low word of a difference into a local, and leaves the high one.
-fn push_difference_words(
+pub fn push_difference_words(
     left: IntTy,
     right: IntTy,
     scratch: u32,
@@ -447,7 +447,7 @@ fn push_corrected(ty: IntTy, local: u32, other: u32, out: &mut Vec<Instr>) -> Re
 }
 
 /// Appends code that puts the low word of a product into a local, and leaves the high one.
-fn push_product_words(
+pub fn push_product_words(
     left: IntTy,
     right: IntTy,
     scratch: u32,
@@ -489,7 +489,7 @@ fn push_long_above(signed: bool, bits: u8, out: &mut Vec<Instr>) -> Result<(), A
 }
 
 /// Appends code that tells whether the number with this low word and the high word on the operands isn't a value of the type.
-fn push_outside(to: IntTy, local: u32, out: &mut Vec<Instr>) -> Result<(), AllocError>
+pub fn push_outside(to: IntTy, local: u32, out: &mut Vec<Instr>) -> Result<(), AllocError>
     ensures { OnOk result (out.new.items ≡ out.old.items ++ outside to local) }
 {
     push_high_of(to, local, out)?;
@@ -533,21 +533,21 @@ fn is_long(ty: IntTy) -> bool
 }
 
 /// Whether operands and result are unsigned, and the result has 64 bits.
-fn all_unsigned(left: IntTy, right: IntTy, to: IntTy) -> bool
+pub fn all_unsigned(left: IntTy, right: IntTy, to: IntTy) -> bool
     ensures { result ≡ all_unsigned left right to }
 {
     !is_signed(left) && !is_signed(right) && !is_signed(to) && is_long(to)
 }
 
 /// Whether operands and result are signed, and the result has 64 bits.
-fn all_signed(left: IntTy, right: IntTy, to: IntTy) -> bool
+pub fn all_signed(left: IntTy, right: IntTy, to: IntTy) -> bool
     ensures { result ≡ all_signed left right to }
 {
     is_signed(left) && is_signed(right) && is_signed(to) && is_long(to)
 }
 
 /// Appends code that compares a local with another one.
-fn push_long_less(local: u32, other: u32, out: &mut Vec<Instr>) -> Result<(), AllocError>
+pub fn push_long_less(local: u32, other: u32, out: &mut Vec<Instr>) -> Result<(), AllocError>
     ensures { OnOk result (out.new.items ≡ out.old.items ++ long_less local other) }
 {
     out.push(Instr::LocalGet(local))?;
@@ -557,7 +557,7 @@ fn push_long_less(local: u32, other: u32, out: &mut Vec<Instr>) -> Result<(), Al
 }
 
 /// Appends code that tells whether the low word, read with its sign, is less than the left operand exactly where it shouldn't be.
-fn push_crossed(
+pub fn push_crossed(
     comparison: Comparison,
     scratch: u32,
     out: &mut Vec<Instr>,
