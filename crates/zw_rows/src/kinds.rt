@@ -1,13 +1,17 @@
 // The kinds of rows: one module for each, and one arm.
 mod applied;
 mod bodies;
+mod code;
 mod coercions;
 mod command;
+mod decimals;
 mod leb;
 mod modules;
 mod num;
 mod parts;
+mod runs;
 mod session;
+mod sinks;
 mod source;
 mod tokens;
 mod trees;
@@ -55,6 +59,8 @@ fn check_trees(alloc: Global, head: &Field<'_>, fields: &[Field<'_>]) -> Result<
         "nodes" => trees::check_nodes(alloc, head, fields),
         "bodies" => bodies::check_bodies(alloc, fields),
         "source" => source::check_source(alloc, head, fields),
+        "sink" => sinks::check_sink(alloc, fields),
+        "decimals" => decimals::check_decimals(alloc, fields),
         _ => check_values(alloc, head, fields),
     }
 }
@@ -70,6 +76,8 @@ fn check_values(alloc: Global, head: &Field<'_>, fields: &[Field<'_>]) -> Result
         "parts" => parts::check_parts(alloc, fields),
         "coercions" => coercions::check_coercions(alloc, fields),
         "apply" => applied::check_applied(alloc, fields),
+        "code" => code::check_code(alloc, fields),
+        "runs" => runs::check_runs(alloc, fields),
         _ => Err(head.wrong(Problem::UnknownKind)),
     }
 }

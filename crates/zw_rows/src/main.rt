@@ -5,6 +5,7 @@
 mod cases;
 mod fields;
 mod kinds;
+mod machines;
 mod mistake;
 mod pieces;
 mod report;

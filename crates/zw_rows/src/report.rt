@@ -2,7 +2,7 @@
 use std::alloc::{AllocError, Global};
 
 /// The greatest number of bytes that are shown of a text.
-const SHOWN: usize = 1_000;
+const SHOWN: usize = 4_000;
 
 /// What differs in a row, in lines. Where nothing does, there are none.
 #[derive(Drop)]

@@ -11,7 +11,3 @@ pub mod MachineLasts
 pub mod Calls
 pub mod Writes
 pub mod Shortest
-pub mod Computing
-pub mod Executing
-pub mod HostCalling
-pub mod Running

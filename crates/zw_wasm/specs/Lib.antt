@@ -12,7 +12,6 @@ pub mod Structure
 pub mod Signature
 pub mod Reduction
 pub mod ModuleMachine
-pub mod Computed
 pub mod Sequences
 pub mod WorkedNumbers
 pub mod WorkedBodies
@@ -20,3 +19,4 @@ pub mod WorkedModules
 pub mod WorkedRuns
 pub mod Laws
 pub mod Writing
+pub mod Places

@@ -225,7 +225,7 @@ check_instr x (instr.Br l) os c outer =
     with_index (slice_get (c ∷ outer) l) (λ (d : Control). never_goes_on d.branch os c outer)
 check_instr x (instr.BrIf l) os c outer =
     with_index (slice_get (c ∷ outer) l) (λ (d : Control). replaces (d.branch ++ I32 ∷ []) d.branch os c outer)
-check_instr x (instr.BrTable labels default) os c outer =
+check_instr x (instr.BrTable default labels) os c outer =
     with_index (slice_get (c ∷ outer) default) (λ d. branches_by labels d os c outer)
 check_instr x instr.Return os c outer = never_goes_on x.returns os c outer
 check_instr x (instr.Call f) os c outer =

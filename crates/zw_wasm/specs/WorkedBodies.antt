@@ -150,11 +150,11 @@ pub record RefusesBranches (m : Module) : Type 0 where
   pub behind_left_over : checked_body m (Block None ∷ Br 0 ∷ i32_add ∷ End ∷ LocalGet 0 ∷ End ∷ []) ≡ refused_at 3 wrong_type
   pub behind_if : checked_body m (Block None ∷ LocalGet 0 ∷ BrIf 0 ∷ i32_add ∷ Drop ∷ End ∷ LocalGet 0 ∷ End ∷ []) ≡ refused_at 3 wrong_type
   -- by a table: each label is there, and takes what the default takes
-  pub table : checked_body m (Block (Some I32) ∷ LocalGet 0 ∷ LocalGet 0 ∷ BrTable (0 ∷ 1 ∷ []) 0 ∷ End ∷ End ∷ []) ≡ None
-  pub table_label : checked_body m (Block (Some I32) ∷ LocalGet 0 ∷ LocalGet 0 ∷ BrTable (0 ∷ 2 ∷ []) 0 ∷ End ∷ End ∷ []) ≡ refused_at 3 no_index
-  pub table_default : checked_body m (Block (Some I32) ∷ LocalGet 0 ∷ LocalGet 0 ∷ BrTable (0 ∷ 1 ∷ []) 2 ∷ End ∷ End ∷ []) ≡ refused_at 3 no_index
-  pub table_arity : checked_body m (Block None ∷ LocalGet 0 ∷ LocalGet 0 ∷ BrTable (0 ∷ []) 1 ∷ End ∷ LocalGet 0 ∷ End ∷ []) ≡ refused_at 3 wrong_type
-  pub table_operand : checked_body m (Block None ∷ BrTable [] 0 ∷ End ∷ LocalGet 0 ∷ End ∷ []) ≡ refused_at 1 wrong_type
+  pub table : checked_body m (Block (Some I32) ∷ LocalGet 0 ∷ LocalGet 0 ∷ BrTable 0 (0 ∷ 1 ∷ []) ∷ End ∷ End ∷ []) ≡ None
+  pub table_label : checked_body m (Block (Some I32) ∷ LocalGet 0 ∷ LocalGet 0 ∷ BrTable 0 (0 ∷ 2 ∷ []) ∷ End ∷ End ∷ []) ≡ refused_at 3 no_index
+  pub table_default : checked_body m (Block (Some I32) ∷ LocalGet 0 ∷ LocalGet 0 ∷ BrTable 2 (0 ∷ 1 ∷ []) ∷ End ∷ End ∷ []) ≡ refused_at 3 no_index
+  pub table_arity : checked_body m (Block None ∷ LocalGet 0 ∷ LocalGet 0 ∷ BrTable 1 (0 ∷ []) ∷ End ∷ LocalGet 0 ∷ End ∷ []) ≡ refused_at 3 wrong_type
+  pub table_operand : checked_body m (Block None ∷ BrTable 0 [] ∷ End ∷ LocalGet 0 ∷ End ∷ []) ≡ refused_at 1 wrong_type
   -- a return takes the function's result, wherever it stands
   pub returns : checked_body m (Block None ∷ Loop None ∷ LocalGet 0 ∷ Return ∷ i32_add ∷ Drop ∷ End ∷ End ∷ LocalGet 0 ∷ End ∷ []) ≡ None
   pub returns_nothing : checked_body m (Return ∷ End ∷ []) ≡ refused_at 0 wrong_type

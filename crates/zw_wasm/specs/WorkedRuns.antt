@@ -138,7 +138,7 @@ gives_memory value memory left =
 -- one code of three, by a table
 abbrev pub by_table : List Instr
 by_table =
-    Block None ∷ Block None ∷ Block None ∷ LocalGet 0 ∷ BrTable (0 ∷ 1 ∷ []) 2 ∷ End ∷ I32Const (pos 10) ∷ Return ∷ End ∷ I32Const (pos 20) ∷ Return
+    Block None ∷ Block None ∷ Block None ∷ LocalGet 0 ∷ BrTable 2 (0 ∷ 1 ∷ []) ∷ End ∷ I32Const (pos 10) ∷ Return ∷ End ∷ I32Const (pos 20) ∷ Return
     ∷ End ∷ I32Const (pos 30) ∷ End ∷ []
 
 -- the sum of the numbers from the first parameter down to 1

@@ -3,16 +3,20 @@
 
 mod encode;
 mod execution;
+mod exports;
+mod globals;
 mod laws;
 mod module;
 mod num;
-mod reduce;
+mod place;
 mod writing;
 
 pub use execution::{
     bodies_are_typed, calls_are_worked, code_is_structured, module_calls_stay_ended,
     modules_are_worked, numbers_are_worked, sequences_compose,
 };
+pub use exports::{exported_function, exported_global};
+pub use globals::first_globals;
 pub use laws::{no_shorter_module, sequences_close, shortest_module};
 pub use module::{
     BinaryOperator, CodeBody, Comparison, Conversion, DataSegment, Element, ExportDef, FuncImport,
@@ -20,7 +24,5 @@ pub use module::{
     ValType,
 };
 pub use num::Num;
-pub use reduce::{
-    HostCall, RunEnd, RunState, exported_function, exported_global, first_globals, run_function,
-};
+pub use place::PlaceCode;
 pub use writing::write;

@@ -2,7 +2,8 @@
 // custom sections, and imports other than functions. Contracts see each `Items` as the list of its items.
 ghost use Rattle.std.specs.Prelude.{◌≡◌, IfOk};
 
-use sqlite_items::Items;
+use crate::place::PlaceCode;
+use sqlite_items::{Boxed, Items};
 use std::alloc::{AllocError, Global};
 
 /// The type of a value (2.3.1).
@@ -65,7 +66,7 @@ impl ExportDef {
 #[derive(Debug, Drop)]
 pub struct Element {
     pub table: u32,
-    pub at: Items<Instr>,
+    pub at: PlaceCode,
     pub funcs: Items<u32>,
 }
 
@@ -73,7 +74,7 @@ pub struct Element {
 #[derive(Debug, Drop)]
 pub struct DataSegment {
     pub memory: u32,
-    pub at: Items<Instr>,
+    pub at: PlaceCode,
     pub bytes: Items<u8>,
 }
 
@@ -107,7 +108,10 @@ pub enum Instr {
     /// Takes an `i32`, and branches where it isn't 0.
     BrIf(u32),
     /// Takes an `i32`, and branches to the label at that place of the list, or past the list to the default.
-    BrTable { labels: Items<u32>, default: u32 },
+    BrTable {
+        default: u32,
+        labels: Boxed<Items<u32>>,
+    },
     /// Returns from the function.
     Return,
     /// Calls the function with this number, among the imported ones and those with a body.
@@ -152,15 +156,18 @@ pub enum Instr {
     Convert(Conversion),
 }
 
+// An instruction takes 16 bytes, so that the code of a file of 128 MiB takes at most 2 GiB.
+const _: () = prove!(size_of::<Instr>() == 16);
+
 impl Instr {
     /// The same instruction anew.
     pub fn copy(&self, alloc: Global) -> Result<Instr, AllocError>
         ensures { IfOk result (λ it. it ≡ self.now) }
     {
         Ok(match self {
-            Instr::BrTable { labels, default } => Instr::BrTable {
-                labels: Items::from_slice(alloc, labels.as_slice())?,
+            Instr::BrTable { default, labels } => Instr::BrTable {
                 default: *default,
+                labels: Boxed::new(alloc, Items::from_slice(alloc, labels.get().as_slice())?)?,
             },
             Instr::Unreachable => Instr::Unreachable,
             Instr::Nop => Instr::Nop,

@@ -36,7 +36,7 @@ impl Stacks {
 
     /// A branch by a table of labels, which take the same as the default.
     pub fn branch_by(&mut self, alloc: Global, labels: &[u32], default: u32) -> Step
-        ensures { (x : Context) → ComesTo (check_instr x (Instr.BrTable labels.now default)) self.old result self.new }
+        ensures { (x : Context) → ComesTo (check_instr x (Instr.BrTable default labels.now)) self.old result self.new }
     {
         let Some(ty) = self.branch(default) else {
             return Step::Refused(Fault::Index);

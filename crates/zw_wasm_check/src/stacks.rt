@@ -53,9 +53,9 @@ pub enum Step {
 pub struct Entry {
     pub result_type: Option<ValType>,
     pub branch_type: Option<ValType>,
-    pub below: Items<Option<ValType>>,
     pub unreachable: bool,
     pub is_if: bool,
+    pub below: Items<Option<ValType>>,
 }
 
 /// The operands of the innermost entry, the last at the end; that entry; and the others, the outermost first.
@@ -76,9 +76,9 @@ impl Stacks {
             control: Entry {
                 result_type: ty,
                 branch_type: ty,
-                below: Items::new(alloc),
                 unreachable: false,
                 is_if: false,
+                below: Items::new(alloc),
             },
             outer: Items::new(alloc),
         }
@@ -137,9 +137,9 @@ impl Stacks {
         let inner = Entry {
             result_type,
             branch_type,
-            below,
             unreachable: false,
             is_if,
+            below,
         };
         let outer = mem::replace(&mut self.control, inner);
         self.outer.push(outer)?;

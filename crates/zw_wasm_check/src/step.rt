@@ -30,8 +30,8 @@ impl Stacks {
             Instr::End => self.end(),
             Instr::Br(label) => Ok(self.branch_always(alloc, *label)),
             Instr::BrIf(label) => self.branch_if(*label),
-            Instr::BrTable { labels, default } => {
-                Ok(self.branch_by(alloc, labels.as_slice(), *default))
+            Instr::BrTable { default, labels } => {
+                Ok(self.branch_by(alloc, labels.get().as_slice(), *default))
             }
             Instr::Return => Ok(self.jump(alloc, ty.result.as_slice())),
             Instr::Call(func) => self.call(m, *func),

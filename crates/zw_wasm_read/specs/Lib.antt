@@ -6,4 +6,5 @@ pub mod Nesting
 pub mod Bodies
 pub mod Tables
 pub mod Stops
+pub mod Texts
 pub mod Sections

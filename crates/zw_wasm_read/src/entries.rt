@@ -5,7 +5,7 @@ ghost use Rattle.zw_wasm_read.specs.Bodies.{ReadsBody};
 ghost use Rattle.zw_wasm_read.specs.Reads.{Reads};
 
 use crate::bytes::{pass_byte, read_byte, read_bytes, read_name, read_sized, read_u32};
-use crate::expressions::read_expression;
+use crate::expressions::{read_expression, read_place};
 use crate::types::{read_mutability, read_value_type};
 use crate::unread::Unread;
 use crate::vectors::read_vector;
@@ -59,7 +59,7 @@ pub(crate) fn read_element(alloc: Global, b: &[u8]) -> Result<(Element, &[u8]), 
     ensures { Reads IsElement b.now result }
 {
     let (table, b) = read_u32(b)?;
-    let (at, b) = read_expression(alloc, b)?;
+    let (at, b) = read_place(alloc, b)?;
     let (funcs, b) = read_vector(alloc, b)?;
     Ok((Element { table, at, funcs }, b))
 }
@@ -69,7 +69,7 @@ pub(crate) fn read_data(alloc: Global, b: &[u8]) -> Result<(DataSegment, &[u8]),
     ensures { Reads IsDataSegment b.now result }
 {
     let (memory, b) = read_u32(b)?;
-    let (at, b) = read_expression(alloc, b)?;
+    let (at, b) = read_place(alloc, b)?;
     let (bytes, b) = read_bytes(alloc, b)?;
     Ok((DataSegment { memory, at, bytes }, b))
 }

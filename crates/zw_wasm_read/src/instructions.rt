@@ -10,6 +10,7 @@ use crate::opcodes::{alone, load, store};
 use crate::types::read_block_type;
 use crate::unread::Unread;
 use crate::vectors::read_vector;
+use sqlite_items::Boxed;
 use std::alloc::Global;
 use zw_wasm::{Instr, MemoryArgument};
 
@@ -74,7 +75,8 @@ fn read_table(alloc: Global, b: &[u8]) -> Result<(Instr, &[u8]), Unread>
 {
     let (labels, b) = read_vector(alloc, b)?;
     let (default, b) = read_u32(b)?;
-    Ok((Instr::BrTable { labels, default }, b))
+    let labels = Boxed::new(alloc, labels)?;
+    Ok((Instr::BrTable { default, labels }, b))
 }
 
 fn read_indirect(b: &[u8]) -> Result<(Instr, &[u8]), Unread>

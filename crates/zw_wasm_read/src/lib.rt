@@ -8,6 +8,7 @@ mod instructions;
 mod laws;
 mod module;
 mod opcodes;
+mod room;
 mod sections;
 mod stop;
 mod types;

@@ -4,6 +4,7 @@ ghost use Rattle.zw_wasm.specs.ModuleBytes.{IsHeader};
 ghost use Rattle.zw_wasm_read.specs.Reads.{Passes};
 ghost use Rattle.zw_wasm_read.specs.Sections.{ReadsBack, ReadsFront, ReadsModule, module_of};
 
+use crate::room::with_room;
 use crate::sections::{pass_customs, read_optional, read_optional_start, stop};
 use crate::stop::{BadCode, ReadErr};
 use crate::unread::Unread;
@@ -100,7 +101,7 @@ fn read_front(alloc: Global, total: usize, b: &[u8]) -> Result<(Front, &[u8]), R
 fn limits_of(alloc: Global, tables: &[TableType]) -> Result<Items<Limits>, Oom>
     ensures { IfOk result (λ limits. limits ≡ map (λ table. table.limits) tables.now) }
 {
-    let mut limits = Items::new(alloc);
+    let mut limits = with_room(alloc, tables.len(), tables.len(), 1)?;
     for table in tables {
         limits.push(table.limits)?;
     }

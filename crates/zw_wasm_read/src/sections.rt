@@ -4,6 +4,7 @@ ghost use Rattle.zw_wasm_read.specs.Sections.{BeginsWith, IsFirst, IsInOrder, Pa
 ghost use Rattle.zw_wasm_read.specs.declared.stop.ReadErr.TheVariants as stop_err;
 
 use crate::bytes::{read_sized, read_text, read_u32};
+use crate::room::with_room;
 use crate::stop::{BadCode, ReadErr};
 use crate::unread::Unread;
 use crate::vectors::Decode;
@@ -103,7 +104,7 @@ fn read_entries<T: Decode>(alloc: Global, content: &[u8]) -> Result<Items<T>, Co
         Err(Unread::Unfit) => return Err(ContentErr::NoEnd),
         Err(Unread::Oom) => return Err(ContentErr::Oom),
     };
-    let mut items = Items::new(alloc);
+    let mut items = with_room(alloc, count as usize, rest.len(), T::LEAST)?;
     while items.len() < count as usize {
         match T::decode(alloc, rest) {
             Ok((item, behind)) => {

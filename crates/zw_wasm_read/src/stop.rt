@@ -37,6 +37,11 @@ impl From<Oom> for ReadErr {
 }
 
 impl fmt::Display for ReadErr {
+    ghost use Rattle.std.specs.Prelude.{Some};
+    ghost use Rattle.zw_wasm_read.specs.Texts.{text_of};
+
+    ghost output = { λ e. Some (text_of e) };
+
     fn fmt<W: fmt::Write>(&self, f: &mut fmt::Formatter<W>) -> fmt::Result {
         match self {
             ReadErr::Bad { at, code } => {

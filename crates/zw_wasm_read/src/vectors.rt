@@ -8,6 +8,7 @@ use crate::bytes::read_u32;
 use crate::entries::{
     read_code, read_data, read_element, read_export, read_global, read_import, read_local_run,
 };
+use crate::room::with_room;
 use crate::types::{read_function_type, read_limits, read_table_type, read_value_type};
 use crate::unread::Unread;
 use sqlite_items::Items;
@@ -21,6 +22,9 @@ pub(crate) trait Decode: Drop + Sized {
     /// Which bytes spell it.
     ghost spells: { Self → List ℕ → Type 0 };
 
+    /// The least number of bytes that spell one.
+    const LEAST: usize;
+
     /// Reads it from the front of bytes.
     fn decode(alloc: Global, b: &[u8]) -> Result<(Self, &[u8]), Unread>
         ensures reads { Reads spells b.now result }
@@ -32,7 +36,7 @@ pub(crate) fn read_vector<T: Decode>(alloc: Global, b: &[u8]) -> Result<(Items<T
     ensures { Reads (IsVector T.spells) b.now result }
 {
     let (count, mut rest) = read_u32(b)?;
-    let mut items = Items::new(alloc);
+    let mut items = with_room(alloc, count as usize, rest.len(), T::LEAST)?;
     while items.len() < count as usize {
         let (item, behind) = T::decode(alloc, rest)?;
         items.push(item)?;
@@ -44,6 +48,8 @@ pub(crate) fn read_vector<T: Decode>(alloc: Global, b: &[u8]) -> Result<(Items<T
 impl Decode for u32 {
     ghost spells = { IsU32 };
 
+    const LEAST: usize = 1;
+
     fn decode(_alloc: Global, b: &[u8]) -> Result<(u32, &[u8]), Unread> {
         read_u32(b)
     }
@@ -51,6 +57,8 @@ impl Decode for u32 {
 
 impl Decode for ValType {
     ghost spells = { IsValueType };
+
+    const LEAST: usize = 1;
 
     fn decode(_alloc: Global, b: &[u8]) -> Result<(ValType, &[u8]), Unread> {
         read_value_type(b)
@@ -60,6 +68,8 @@ impl Decode for ValType {
 impl Decode for (u32, ValType) {
     ghost spells = { IsLocalRun };
 
+    const LEAST: usize = 2;
+
     fn decode(_alloc: Global, b: &[u8]) -> Result<((u32, ValType), &[u8]), Unread> {
         read_local_run(b)
     }
@@ -67,6 +77,8 @@ impl Decode for (u32, ValType) {
 
 impl Decode for FuncType {
     ghost spells = { IsFunctionType };
+
+    const LEAST: usize = 3;
 
     fn decode(alloc: Global, b: &[u8]) -> Result<(FuncType, &[u8]), Unread> {
         read_function_type(alloc, b)
@@ -76,6 +88,8 @@ impl Decode for FuncType {
 impl Decode for FuncImport {
     ghost spells = { IsFunctionImport };
 
+    const LEAST: usize = 4;
+
     fn decode(alloc: Global, b: &[u8]) -> Result<(FuncImport, &[u8]), Unread> {
         read_import(alloc, b)
     }
@@ -83,6 +97,8 @@ impl Decode for FuncImport {
 
 impl Decode for Limits {
     ghost spells = { AreLimits };
+
+    const LEAST: usize = 2;
 
     fn decode(_alloc: Global, b: &[u8]) -> Result<(Limits, &[u8]), Unread> {
         read_limits(b)
@@ -92,6 +108,8 @@ impl Decode for Limits {
 impl Decode for GlobalDef {
     ghost spells = { IsGlobal };
 
+    const LEAST: usize = 3;
+
     fn decode(alloc: Global, b: &[u8]) -> Result<(GlobalDef, &[u8]), Unread> {
         read_global(alloc, b)
     }
@@ -99,6 +117,8 @@ impl Decode for GlobalDef {
 
 impl Decode for ExportDef {
     ghost spells = { IsExport };
+
+    const LEAST: usize = 3;
 
     fn decode(alloc: Global, b: &[u8]) -> Result<(ExportDef, &[u8]), Unread> {
         read_export(alloc, b)
@@ -108,6 +128,8 @@ impl Decode for ExportDef {
 impl Decode for Element {
     ghost spells = { IsElement };
 
+    const LEAST: usize = 3;
+
     fn decode(alloc: Global, b: &[u8]) -> Result<(Element, &[u8]), Unread> {
         read_element(alloc, b)
     }
@@ -116,6 +138,8 @@ impl Decode for Element {
 impl Decode for CodeBody {
     ghost spells = { IsCode };
 
+    const LEAST: usize = 3;
+
     fn decode(alloc: Global, b: &[u8]) -> Result<(CodeBody, &[u8]), Unread> {
         read_code(alloc, b)
     }
@@ -123,6 +147,8 @@ impl Decode for CodeBody {
 
 impl Decode for DataSegment {
     ghost spells = { IsDataSegment };
+
+    const LEAST: usize = 3;
 
     fn decode(alloc: Global, b: &[u8]) -> Result<(DataSegment, &[u8]), Unread> {
         read_data(alloc, b)
@@ -139,6 +165,8 @@ impl Decode for TableType {
     ghost use Rattle.zw_wasm_read.specs.Tables.{IsTable};
 
     ghost spells = { IsTable };
+
+    const LEAST: usize = 3;
 
     fn decode(_alloc: Global, b: &[u8]) -> Result<(TableType, &[u8]), Unread> {
         let (limits, b) = read_table_type(b)?;

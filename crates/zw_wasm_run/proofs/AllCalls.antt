@@ -124,7 +124,7 @@ pub no_function : (m : Module) (f : ℕ) (c : Config) → func_type m f ≡ None
 no_function m f c e = ap (λ o. called m f o c) e
 
 -- a function that has a body is entered, where there may be a frame more
-enter_goes : (m : Module) (f : ℕ) (args : List Num) (c : Config) → nat_lt f (length m.imports) ≡ false → nat_le max_frames (length c.below) ≡ false → enter m f args c ≡ entered (slice_get m.codes (f - length m.imports)) f (arity_of (func_type m f)) args c
+pub enter_goes : (m : Module) (f : ℕ) (args : List Num) (c : Config) → nat_lt f (length m.imports) ≡ false → nat_le max_frames (length c.below) ≡ false → enter m f args c ≡ entered (slice_get m.codes (f - length m.imports)) f (arity_of (func_type m f)) args c
 enter_goes m f args c own room =
     if_false (nat_lt f (length m.imports)) (CallsHost f args c) (if nat_le max_frames (length c.below) then Traps frames_trap else entered (slice_get m.codes (f - length m.imports)) f (arity_of (func_type m f)) args c) own
     ∙ if_false (nat_le max_frames (length c.below)) (Traps frames_trap) (entered (slice_get m.codes (f - length m.imports)) f (arity_of (func_type m f)) args c) room

@@ -20,10 +20,10 @@ same_run m v (suc n) c d same =
 pub same_after : (c d e : Config) → SameNext c d → SameNext d e → SameNext c e
 same_after c d e first second = record { next = first.next ∙ second.next; world = first.world ∙ second.world }
 
-found : (c : Config) (work : Work) (f : Frame) → stands_in c.frame ≡ Does work f → next_of c ≡ Found work f c.below
+pub found : (c : Config) (work : Work) (f : Frame) → stands_in c.frame ≡ Does work f → next_of c ≡ Found work f c.below
 found c work f e = ap (λ s. fetched s c.below) e
 
-doing : (m : Module) (v : View) (c : Config) (work : Work) (f : Frame) (a : Action) → stands_in c.frame ≡ Does work f → done m work (at_doing f c) ≡ a → step m v c ≡ resolved m v c.world a
+pub doing : (m : Module) (v : View) (c : Config) (work : Work) (f : Frame) (a : Action) → stands_in c.frame ≡ Does work f → done m work (at_doing f c) ≡ a → step m v c ≡ resolved m v c.world a
 doing m v c work f a e d = ap (λ o. step_of m v c.world o) (found c work f e) ∙ ap (λ x. resolved m v c.world x) d
 
 -- work that goes on takes a step, and so does a trap

@@ -41,7 +41,7 @@ label_as arity count target follows height words same at =
     ap (λ a. x a height) same ∙ ap (λ h. x count h) at
 
 -- the frame stands for one at another place
-moved : (instrs : List Instr) (k : Frame) (ks : List Label) (words : List ℕ) (at : ℕ) (c : Config) (lower : List Num) → Stands instrs k ks words c lower → Stands instrs (record k { at = at }) ks words (record c { frame = at_work c.frame c.frame.operands (code_of (drop at instrs)) c.frame.labels }) lower
+pub moved : (instrs : List Instr) (k : Frame) (ks : List Label) (words : List ℕ) (at : ℕ) (c : Config) (lower : List Num) → Stands instrs k ks words c lower → Stands instrs (record k { at = at }) ks words (record c { frame = at_work c.frame c.frame.operands (code_of (drop at instrs)) c.frame.labels }) lower
 moved instrs k ks words at c lower stands = record {
   frame = record {
     arity = stands.frame.arity;
@@ -155,7 +155,7 @@ choice_steps m ty arms w words old new here are last frame frames labels left = 
       };
 }
 
-no_operands : (os base : List Num) → Hold [] (os ++ base) → os ≡ []
+pub no_operands : (os base : List Num) → Hold [] (os ++ base) → os ≡ []
 no_operands [] base h = refl
 no_operands (v ∷ os) base h = absurd h
 

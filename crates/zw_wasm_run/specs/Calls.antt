@@ -1,5 +1,5 @@
--- Calls: what a call of an exported function comes to, by reduction, whatever the host reads its arguments as. No code meets it
--- yet.
+-- Calls: what a call of an exported function comes to, by reduction, whatever the host reads its arguments as, and whatever
+-- names the imports have, by which it tells them apart.
 use Rattle.std.specs.Prelude.{◌≡◌, ℕ, suc, ◌<◌, nat_eq, Bool, true, false, ◌&&◌, ◌||◌, List, [], ◌∷◌, length, map, Option, Some, None, slice_get}
 use Rattle.std.specs.Option.{option_to_list}
 use Rattle.zw_session.specs.Sessions.{HostEvent, Scalar}
@@ -10,6 +10,7 @@ use Rattle.zw_wasm.specs.Functions.{func_type}
 use Rattle.zw_wasm.specs.ModuleMachine.{param_types, run_function}
 use Rattle.zw_wasm.specs.Reduction.{Ended, Finished, Going, NoReply, Run, Store, Trap, World, field_of}
 use Rattle.zw_wasm.specs.Signature.{Bytes, Shown, Value, View, scalar_of}
+use Rattle.zw_wasm_run.specs.Naming.{named}
 use Rattle.zw_wasm_run.specs.declared.event.Event.{Event}
 use Rattle.zw_wasm_run.specs.declared.event.Outcome.{Outcome}
 use Rattle.zw_wasm_run.specs.declared.event.Outcome.TheVariants as outcome
@@ -64,5 +65,5 @@ run_to outcome.Over w left = None
 
 -- a call of a function with these arguments, from one state to another, with these events
 pub record CallRuns (m : Module) (shows : List Show) (func : ℕ) (args : List Num) (before : State) (events : List Event) (end : Outcome) (after : State) : Type 0 where
-  pub by : (v : View) → ShowsTo m shows v → Some (run_function m v func args (record { store = before.store; replies = before.replies; events = [] }) before.steps) ≡ run_to end (record { store = after.store; replies = after.replies; events = map (seen m v) events }) after.steps
+  pub by : (names : ℕ → List ℕ) (v : View) → ShowsTo m shows v → Some (run_function (named names m) v func args (record { store = before.store; replies = before.replies; events = [] }) before.steps) ≡ run_to end (record { store = after.store; replies = after.replies; events = map (seen (named names m) v) events }) after.steps
   pub spent : end ≡ outcome.StepsOut → after.steps ≡ 0

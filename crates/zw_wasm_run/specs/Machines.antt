@@ -1,42 +1,28 @@
 -- Machines: what a machine holds, and how it begins (WebAssembly Core Specification 1.0, 4.2.5 and 4.5.4).
-use Rattle.std.specs.Prelude.{◌≡◌, ◌⊎◌, ℕ, ◌+◌, ◌<◌, false, List, [], ◌∷◌, codes, Vec, Option, Some, None, Result, Ok, Err, slice_get, length}
+use Rattle.std.specs.Prelude.{◌≡◌, ◌⊎◌, ℕ, ◌+◌, false, List, [], ◌∷◌, codes, Vec, Option, Some, None, Result, Ok, Err, length}
 use Rattle.std.specs.declared.alloc.Global.{Global}
 use Rattle.zw_wasm.specs.declared.module.Module.{Module}
-use Rattle.zw_wasm.specs.declared.module.ValType.TheVariants.{I32}
 use Rattle.zw_wasm.specs.declared.module.Limits.{Limits}
-use Rattle.zw_wasm.specs.Functions.{func_type}
-use Rattle.zw_wasm.specs.ModuleMachine.{exported_global, first_store, param_types}
+use Rattle.zw_wasm.specs.ModuleMachine.{exported_global, first_store}
 use Rattle.zw_wasm.specs.Reduction.{Store}
 use Rattle.zw_wasm.specs.Signature.{bytes_at}
-use Rattle.zw_wasm_run.specs.declared.machine.Machine.{Machine}
+use Rattle.zw_wasm_run.specs.declared.held.Machine.{Machine}
 use Rattle.zw_wasm_run.specs.declared.machine.NewErr.{NewErr}
 use Rattle.zw_wasm_run.specs.declared.machine.NewErr.TheVariants as error
 use Rattle.zw_wasm_run.specs.declared.machine.Show.{Show}
+pub use Rattle.zw_wasm_run.specs.Shows.{AreApart, AreShows, IsShow}
+use Rattle.zw_wasm_run.specs.Stores.{stored}
 use Rattle.zw_wasm_run.specs.Segments.{datas_inside, elements_inside, first_false, first_outside}
 use Rattle.std.specs.Option.{option_map}
 
 -- what a machine's frames share
 abbrev pub store_of : Machine → Store
-store_of x = record { globals = x.globals; memory = x.memory.items; table = x.table.items }
-
--- a parameter of an import and the next one are a pointer and a length
-pub record IsShow (m : Module) (s : Show) : Type 0 where
-  pub imported : s.import < length m.imports
-  pub pointer : slice_get (param_types (func_type m s.import)) s.param ≡ Some I32
-  pub count : slice_get (param_types (func_type m s.import)) (s.param + 1) ≡ Some I32
-
--- two that share no parameter
-abbrev pub AreApart : Show → Show → Type 0
-AreApart s t = (s.import ≡ t.import) → (s.param + 1 < t.param) ⊎ (t.param + 1 < s.param)
-
-pub record AreShows (m : Module) (shows : List Show) : Type 0 where
-  pub each : (i : ℕ) (s : Show) → slice_get shows i ≡ Some s → IsShow m s
-  pub apart : (i j : ℕ) (s t : Show) → i < j → slice_get shows i ≡ Some s → slice_get shows j ≡ Some t → AreApart s t
+store_of x = stored x.store
 
 -- a new machine of a module, whose segments lie inside
 pub record IsNew (m : Module) (shows : List Show) (x : Machine) : Type 0 where
   pub inside : first_outside m ≡ None
-  pub same : x.module ≡ m
+  pub same : x.code ≡ m
   pub shown : x.shows ≡ shows
   pub store : store_of x ≡ first_store m
   pub runs : x.over ≡ false

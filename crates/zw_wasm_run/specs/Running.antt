@@ -1,13 +1,12 @@
 -- Running: how a machine's frames lie on each other, over the host's own, while a call runs.
-use Rattle.std.specs.Prelude.{◌≡◌, ℕ, ◌≤◌, Bool, true, false, List, [], ◌∷◌, length, drop, take, reverse, Option, Some, None, slice_get}
-use Rattle.zw_wasm.specs.declared.module.CodeBody.{CodeBody}
-use Rattle.zw_wasm.specs.declared.module.Instr.{Instr}
+use Rattle.std.specs.Prelude.{◌≡◌, ℕ, ◌≤◌, Bool, true, false, List, [], ◌∷◌, length, drop, take, reverse}
 use Rattle.zw_wasm.specs.declared.module.Module.{Module}
 use Rattle.zw_wasm.specs.ModuleMachine.{host_frame}
 use Rattle.zw_wasm.specs.Reduction as reduction
 use Rattle.zw_wasm.specs.Reduction.{Action, Config, Does, Fetched, Goes, Over, Traps, Work, World, done, fetched, stands_in}
 use Rattle.zw_wasm.specs.Structure.{Ends}
 use Rattle.zw_wasm_run.specs.Words.{Hold}
+pub use Rattle.zw_wasm_run.specs.Bodies.{body_of, instrs_in}
 use Rattle.zw_wasm_run.specs.declared.effect.Effect.{Effect}
 use Rattle.zw_wasm_run.specs.declared.effect.Effect.TheVariants as effect
 use Rattle.zw_wasm_run.specs.declared.frame.Frame.{Frame}
@@ -15,14 +14,6 @@ use Rattle.zw_wasm_run.specs.declared.frame.Label.{Label}
 use Rattle.zw_wasm_run.specs.declared.stacks.Stacks.{Stacks}
 use Rattle.zw_wasm_run.specs.Operands.{IsRuled}
 use Rattle.zw_wasm_run.specs.Frames.{FrameStands, Stands, numbers_of}
-
--- the instructions of a body, by its number
-abbrev pub instrs_in : Option CodeBody → List Instr
-instrs_in None = []
-instrs_in (Some b) = b.instrs
-
-abbrev pub body_of : Module → ℕ → List Instr
-body_of m n = instrs_in (slice_get m.codes n)
 
 -- the labels of the innermost frame, the innermost first, of which so many lie below it
 abbrev pub own_labels : ℕ → List Label → List Label

@@ -55,8 +55,9 @@ pub fn size(memory: &[u8], stack: &mut Vec<u64>) -> Result<Effect, AllocError>
 /// the operand is -1. Want of memory is answered as such.
 pub fn grow(most: usize, memory: &mut Vec<u8>, stack: &mut Vec<u64>) -> Result<Effect, AllocError>
     requires small { length memory.old.items < 2 ^ 48 }
-    requires few { most ≤ 2 ^ 32 }
-    ensures { IfOk result (λ e. (m : Module) → greatest_pages m.memories ≡ most → WritesMemory memory.old.items memory.new.items (λ c. on_one ValType.I32 (grows m) c.frame.operands c) stack.old.items e stack.new.items) }
+    requires few { most ≤ 16384 }
+    ensures small { length memory.new.items < 2 ^ 48 }
+    ensures grows { IfOk result (λ e. (m : Module) → greatest_pages m.memories ≡ most → WritesMemory memory.old.items memory.new.items (λ c. on_one ValType.I32 (grows m) c.frame.operands c) stack.old.items e stack.new.items) }
 {
     let Some(x) = last(stack) else {
         return Ok(Effect::Traps(NO_RULE));

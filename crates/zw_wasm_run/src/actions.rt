@@ -1,20 +1,20 @@
-// Instructions that neither look at what frames share nor take an operand before they branch, on the stacks of a call. The
-// frame's place is behind the instruction.
-ghost use Rattle.std.specs.Prelude.{◌≡◌, ◌≤◌, length, IfOk, MatchOption};
-ghost use Rattle.zw_wasm.specs.Functions.{func_type};
-ghost use Rattle.zw_wasm.specs.Reduction.{act, called};
+// Instructions that neither look at what frames share nor call a function, on the stacks of a call. The frame's place is behind
+// the instruction.
+ghost use Rattle.std.specs.Prelude.{◌≡◌, ◌≤◌, false, length, IfOk, MatchOption};
+ghost use Rattle.zw_wasm.specs.Reduction.{act};
 ghost use Rattle.zw_wasm_run.specs.Frames.{LocalsFit};
-ghost use Rattle.zw_wasm_run.specs.Running.{ActsOnStacks, SameParts, body_of};
+ghost use Rattle.zw_wasm_run.specs.Kinds.{is_alone, is_local, is_within};
+ghost use Rattle.zw_wasm_run.specs.Running.{ActsOnStacks, body_of};
 
-use crate::calls::call;
 use crate::effect::Effect;
+use crate::indirect::{branch_by, branch_if};
 use crate::stacks::{Stacks, branch, give_back};
 use crate::{locals, plain};
 use std::alloc::AllocError;
 use zw_wasm::{Instr, Module};
 
-/// Executes an instruction on operands, on locals, a branch, a return, or a call of a function that has a body, where the body's
-/// code ends at this place or before it. The answer is none, and nothing happens, where it is another instruction.
+/// Executes an instruction on operands, on locals, a branch, or a return, where the body's code ends at this place or before it.
+/// The answer is none, and nothing happens, where it is another instruction.
 pub fn act(
     m: &Module,
     instr: &Instr,
@@ -24,12 +24,16 @@ pub fn act(
     requires inside { stacks.old.frame.labels ≤ length stacks.old.labels.items }
     requires fit { LocalsFit stacks.old.frame stacks.old.words.items }
     requires end { length (body_of m.now stacks.old.frame.body) ≤ end }
-    ensures { IfOk result (λ effect. MatchOption effect (SameParts stacks.old stacks.new) (λ e. ActsOnStacks m.now (act m.now instr.now) stacks.old e stacks.new)) }
+    ensures { IfOk result (λ effect. MatchOption effect (is_within instr.now ≡ false) (λ e. ActsOnStacks m.now (act m.now instr.now) stacks.old e stacks.new)) }
 {
     match instr {
         Instr::Br(n) => Ok(Some(branch(*n as usize, end, stacks))),
         Instr::Return => Ok(Some(give_back(end, stacks))),
-        Instr::Call(func) => call_own(m, *func as usize, stacks),
+        Instr::BrIf(n) => Ok(Some(branch_if(m, *n, end, stacks))),
+        Instr::BrTable { default, labels } => {
+            let labels = labels.get().as_slice();
+            Ok(Some(branch_by(m, labels, *default, end, stacks)))
+        }
         Instr::LocalGet(_) | Instr::LocalSet(_) | Instr::LocalTee(_) => {
             let Some(effect) = on_locals(m, instr, stacks)? else {
                 return Ok(None);
@@ -47,7 +51,7 @@ pub fn act(
 
 /// Executes an instruction on operands alone. The answer is none, and nothing happens, where it is another instruction.
 fn on_operands(m: &Module, instr: &Instr, stacks: &mut Stacks) -> Result<Option<Effect>, AllocError>
-    ensures { IfOk result (λ effect. MatchOption effect (SameParts stacks.old stacks.new) (λ e. ActsOnStacks m.now (act m.now instr.now) stacks.old e stacks.new)) }
+    ensures { IfOk result (λ effect. MatchOption effect (is_alone instr.now ≡ false) (λ e. ActsOnStacks m.now (act m.now instr.now) stacks.old e stacks.new)) }
 {
     let Some(effect) = plain::act(instr, &mut stacks.words)? else {
         return Ok(None);
@@ -55,21 +59,10 @@ fn on_operands(m: &Module, instr: &Instr, stacks: &mut Stacks) -> Result<Option<
     Ok(Some(effect))
 }
 
-/// A call of a function that has a body. The answer is none, and nothing happens, where it is imported.
-fn call_own(m: &Module, func: usize, stacks: &mut Stacks) -> Result<Option<Effect>, AllocError>
-    ensures { IfOk result (λ effect. MatchOption effect (SameParts stacks.old stacks.new) (λ e. ActsOnStacks m.now (called m.now func (func_type m.now func)) stacks.old e stacks.new)) }
-{
-    if func < m.imports.len() {
-        return Ok(None);
-    }
-    let effect = call(m, func, stacks)?;
-    Ok(Some(effect))
-}
-
 /// Executes an instruction on locals. The answer is none, and nothing happens, where it is another instruction.
 fn on_locals(m: &Module, instr: &Instr, stacks: &mut Stacks) -> Result<Option<Effect>, AllocError>
     requires fit { LocalsFit stacks.old.frame stacks.old.words.items }
-    ensures { IfOk result (λ effect. MatchOption effect (SameParts stacks.old stacks.new) (λ e. ActsOnStacks m.now (act m.now instr.now) stacks.old e stacks.new)) }
+    ensures { IfOk result (λ effect. MatchOption effect (is_local instr.now ≡ false) (λ e. ActsOnStacks m.now (act m.now instr.now) stacks.old e stacks.new)) }
 {
     let frame = stacks.frame;
     match instr {

@@ -53,7 +53,7 @@ pub fn call(m: &Module, func: usize, stacks: &mut Stacks) -> Result<Effect, Allo
 }
 
 /// The type of a function, by its number among the imported ones and those with a body, where both are there.
-fn func_type(m: &Module, func: usize) -> Option<&FuncType>
+pub fn func_type(m: &Module, func: usize) -> Option<&FuncType>
     ensures { option_copied result ≡ func_type m.now func }
 {
     let number = type_number(m, func)?;

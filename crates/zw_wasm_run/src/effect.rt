@@ -26,3 +26,33 @@ pub const OVERFLOW: u8 = 4;
 
 /// Too many frames.
 pub const FRAMES: u8 = 7;
+
+/// A hole of the table, or a place outside it.
+pub const NO_ENTRY: u8 = 5;
+
+/// A function of another type.
+pub const SIGNATURE: u8 = 6;
+
+/// What a step comes to.
+#[derive(Clone, Copy, Debug, PartialEq, Eq)]
+pub enum Taken {
+    /// The code goes on.
+    Goes,
+    /// The imported function with this number is called: its arguments are the last words.
+    Calls(u32),
+    /// A trap, by its cause.
+    Traps(u8),
+}
+
+/// Where the instructions of a call pause.
+#[derive(Clone, Copy, Debug, PartialEq, Eq)]
+pub enum Pause {
+    /// The call has ended. The words are its results.
+    Over,
+    /// Another instruction is due, and no step is left.
+    StepsOut,
+    /// The imported function with this number is called: its arguments are the last words. A step was taken.
+    Calls(u32),
+    /// A trap, by its cause. A step was taken.
+    Traps(u8),
+}

@@ -1,17 +1,31 @@
-// A machine: a module with what its frames share.
-ghost use Rattle.std.specs.Prelude.{◌≡◌, ◌+◌, ◌*◌, ◌^◌, ◌<◌, List, length, map, replicate, Option, Some, None, IfOk, MatchOption, MatchResult};
+// Machines: how they are made, what they are asked, and their calls.
+ghost use Rattle.std.specs.Prelude.{◌≡◌, ◌+◌, ◌*◌, ◌^◌, ◌<◌, List, length, map, replicate, Option, Some, None, true, IfErr, IfOk, MatchOption, MatchResult, OnOk};
 ghost use Rattle.zw_wasm.specs.declared.module.DataSegment.{DataSegment};
 ghost use Rattle.zw_wasm.specs.declared.module.Element.{Element};
-ghost use Rattle.zw_wasm.specs.ModuleMachine.{export_in, exported_global, first_sizes, first_store, first_values};
+ghost use Rattle.zw_wasm.specs.Functions.{func_type};
+ghost use Rattle.zw_wasm.specs.ModuleMachine.{export_in, exported_global, first_sizes, first_store, first_values, param_types};
 ghost use Rattle.zw_wasm.specs.Reduction.{page_size};
-ghost use Rattle.zw_wasm_run.specs.Machines.{ArePanicState, AreShows, Begins, IsOutOfRange, NoPanicState, Remembers, Tabled, bytes_of_memory, store_of};
+ghost use Rattle.zw_wasm_run.specs.MachineCalls.{CallEnds, HasRoom, SameButStacks, SameCode};
+ghost use Rattle.zw_wasm_run.specs.Machines.{ArePanicState, Begins, IsOutOfRange, NoPanicState, Remembers, Tabled, bytes_of_memory, store_of};
+ghost use Rattle.zw_wasm_run.specs.Premises.{type_of};
 ghost use Rattle.zw_wasm_run.specs.Segments.{first_outside};
+ghost use Rattle.zw_wasm_run.specs.Shows.{AreShows, IsExported};
 
+use crate::calls::func_type;
+use crate::code::Code;
+use crate::entry::no_stacks;
+use crate::event::{Event, Outcome};
+use crate::function::call_function;
+use crate::held::Machine;
+use crate::replies::Replies;
 use crate::segments::{place_datas, place_elements};
+use crate::store::Store;
 use sqlite_items::Items;
 use std::alloc::{AllocError, Global};
 use std::fmt;
-use zw_wasm::{ExportDef, Limits, Module, Num, exported_function, exported_global, first_globals};
+use zw_wasm::{
+    ExportDef, FuncType, Limits, Module, Num, exported_function, exported_global, first_globals,
+};
 use zw_wasm_check::Checked;
 
 /// Of an imported function, by its number, this parameter is a pointer and the next one the length of the bytes that are
@@ -51,17 +65,6 @@ impl fmt::Display for NewErr {
     }
 }
 
-/// A valid module, the values of its globals, its memory and its table, and whether a call ended otherwise than by a result.
-#[derive(Drop)]
-pub struct Machine {
-    module: Checked,
-    shows: Items<Show>,
-    globals: Items<Num>,
-    memory: Vec<u8>,
-    table: Vec<Option<u32>>,
-    over: bool,
-}
-
 impl Machine {
     /// A module as it begins (4.5.4). Its memory is zero but for the segments.
     pub fn new(alloc: Global, m: Checked, shows: Items<Show>) -> Result<Machine, NewErr>
@@ -79,27 +82,95 @@ impl Machine {
             Ok(memory) => memory,
             Err(error) => return Err(error),
         };
-        Ok(Machine {
-            module: m,
-            shows,
+        let store = Store {
             globals,
             memory,
             table,
+        };
+        Ok(Machine {
+            code: Code::new(alloc, m)?,
+            shows,
+            store,
+            stacks: no_stacks(alloc),
             over: false,
         })
     }
 
+    /// The module.
+    pub fn module(&self) -> &Module
+        ensures { result.now ≡ self.now.code }
+    {
+        self.code.module()
+    }
+
     /// The number of the function that is exported under a name.
     pub fn export(&self, name: &[u8]) -> Option<u32>
-        ensures { result ≡ export_in ExportDef.FUNC name.now self.now.module.exports }
+        ensures { result ≡ export_in ExportDef.FUNC name.now self.now.code.exports }
     {
-        exported_function(self.module.module(), name)
+        exported_function(self.code.module(), name)
+    }
+
+    /// The type of an exported function, by its number.
+    pub fn export_type(&self, export: u32) -> &FuncType
+        requires { IsExported self.now.code export }
+        ensures { func_type self.now.code export ≡ Some result.now }
+    {
+        let module = self.code.checked().module();
+        match func_type(module, export as usize) {
+            Some(ty) => ty,
+            None => unreachable!(),
+        }
+    }
+
+    /// Makes room for so many frames that are active, and for so many operands and locals over all frames.
+    pub fn reserve(&mut self, frames: u32, values: u32) -> Result<(), AllocError>
+        ensures room { OnOk result (HasRoom self.new frames values) }
+        ensures kept { SameButStacks self.old self.new }
+    {
+        let stacks = &mut self.stacks;
+        stacks.frames.clear();
+        stacks.words.clear();
+        stacks.frames.reserve(frames as usize)?;
+        stacks.words.reserve(values as usize)
+    }
+
+    /// Calls an exported function, by its number, with arguments of its types. `steps` falls by one for each instruction, and no call
+    /// takes more. Once a call has ended by something else than a result, or memory ran out, the machine is over: nothing changes
+    /// any more.
+    pub fn call(
+        &mut self,
+        export: u32,
+        args: &[Num],
+        replies: &mut Replies,
+        steps: &mut u64,
+        log: &mut Vec<Event>,
+    ) -> Result<Outcome, AllocError>
+        requires exported { IsExported self.old.code export }
+        requires typed { map type_of args.now ≡ param_types (func_type self.old.code export) }
+        ensures ends { IfOk result (λ end. CallEnds self.old.over export args.now (record { machine = self.old; host = record { replies = replies.old; log = log.old.items }; steps = steps.old }) end (record { machine = self.new; host = record { replies = replies.new; log = log.new.items }; steps = steps.new })) }
+        ensures wants_memory { IfErr result (λ e. self.new.over ≡ true) }
+        ensures kept { SameCode self.old self.new }
+    {
+        if self.over {
+            return Ok(Outcome::Over);
+        }
+        self.over = true;
+        let shows = self.shows.as_slice();
+        let store = &mut self.store;
+        let stacks = &mut self.stacks;
+        let end = call_function(
+            &self.code, shows, export, args, store, stacks, steps, replies, log,
+        )?;
+        if let Outcome::Result(_) = end {
+            self.over = false;
+        }
+        Ok(end)
     }
 
     /// The values of the exports `panic_cause`, `panic_ptr` and `panic_len`, or none where one of them isn't an exported `i32`
     /// global.
     pub fn panic_state(&self) -> Option<(u32, u32, u32)>
-        ensures { MatchOption result (NoPanicState self.now.module (store_of self.now)) (λ s. ArePanicState self.now.module (store_of self.now) s.0 s.1 s.2) }
+        ensures { MatchOption result (NoPanicState self.now.code (store_of self.now)) (λ s. ArePanicState self.now.code (store_of self.now) s.0 s.1 s.2) }
     {
         let cause = self.exported_global(b"panic_cause")?;
         let place = self.exported_global(b"panic_ptr")?;
@@ -109,20 +180,20 @@ impl Machine {
 
     /// The value of the `i32` global that is exported under a name.
     fn exported_global(&self, name: &[u8]) -> Option<u32>
-        ensures { result ≡ exported_global self.now.module (store_of self.now) name.now }
+        ensures { result ≡ exported_global self.now.code (store_of self.now) name.now }
     {
-        exported_global(self.module.module(), self.globals.as_slice(), name)
+        exported_global(self.code.module(), self.store.globals.as_slice(), name)
     }
 
     /// So many bytes of the memory from a place on, or none where the module has no memory or they don't all lie inside.
     pub fn bytes(&self, at: u32, len: u32) -> Option<&[u8]>
-        ensures { MatchOption result (bytes_of_memory self.now.module.memories self.now.memory.items at len ≡ None) (λ bytes. bytes_of_memory self.now.module.memories self.now.memory.items at len ≡ Some bytes.now) }
+        ensures { MatchOption result (bytes_of_memory self.now.code.memories self.now.store.memory.items at len ≡ None) (λ bytes. bytes_of_memory self.now.code.memories self.now.store.memory.items at len ≡ Some bytes.now) }
     {
-        if self.module.module().memories.is_empty() {
+        if self.code.module().memories.is_empty() {
             return None;
         }
         let end = at as usize + len as usize;
-        self.memory.get(at as usize..end)
+        self.store.memory.get(at as usize..end)
     }
 }
 
@@ -152,7 +223,8 @@ fn new_table(alloc: Global, m: &Module, globals: &[Num]) -> Result<Vec<Option<u3
 /// The memory with its segments, which all lie inside.
 fn new_memory(alloc: Global, m: &Module, globals: &[Num]) -> Result<Vec<u8>, NewErr>
     requires values { globals.now ≡ first_values m.now }
-    ensures { Remembers m.now result }
+    ensures value { Remembers m.now result }
+    ensures small { IfOk result (λ memory. length memory.items < 2 ^ 48) }
 {
     let mut memory = vec![in alloc; 0u8; first_size(m.memories.as_slice()) * 65_536]?;
     match place_datas(globals, m.datas.as_slice(), &mut memory) {

@@ -1,7 +1,8 @@
 // Instructions on the operands alone, by what they are.
-ghost use Rattle.std.specs.Prelude.{◌≡◌, IfOk, MatchOption};
+ghost use Rattle.std.specs.Prelude.{◌≡◌, false, IfOk, MatchOption};
 ghost use Rattle.zw_wasm.specs.declared.module.Module.{Module};
 ghost use Rattle.zw_wasm.specs.Reduction.{act};
+ghost use Rattle.zw_wasm_run.specs.Kinds.{is_alone};
 ghost use Rattle.zw_wasm_run.specs.Operands.{ActsOnWords};
 
 use crate::effect::{Effect, UNREACHABLE};
@@ -11,7 +12,7 @@ use zw_wasm::{Instr, ValType};
 
 /// Executes an instruction on the operands alone. The answer is none, and nothing happens, where it is another instruction.
 pub fn act(instr: &Instr, stack: &mut Vec<u64>) -> Result<Option<Effect>, AllocError>
-    ensures { IfOk result (λ effect. MatchOption effect (stack.new.items ≡ stack.old.items) (λ e. (m : Module) → ActsOnWords (act m instr.now) stack.old.items e stack.new.items)) }
+    ensures { IfOk result (λ effect. MatchOption effect (is_alone instr.now ≡ false) (λ e. (m : Module) → ActsOnWords (act m instr.now) stack.old.items e stack.new.items)) }
 {
     Ok(Some(match instr {
         Instr::Unreachable => Effect::Traps(UNREACHABLE),

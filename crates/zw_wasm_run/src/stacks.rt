@@ -1,5 +1,5 @@
 // The stacks of a call that runs, and what moves all of them: branches, returns, and ends.
-ghost use Rattle.std.specs.Prelude.{◌≡◌, ◌-◌, ◌<◌, ◌≤◌, length};
+ghost use Rattle.std.specs.Prelude.{◌≡◌, ◌+◌, ◌-◌, ◌<◌, ◌≤◌, true, length};
 ghost use Rattle.zw_wasm.specs.declared.module.Module.{Module};
 ghost use Rattle.zw_wasm.specs.Reduction.{branched, returned};
 ghost use Rattle.zw_wasm_run.specs.Frames.{LocalsFit};
@@ -69,7 +69,9 @@ pub fn give_back(end: usize, stacks: &mut Stacks) -> Effect
 /// The innermost label ends, and its frame goes on behind it (4.4.6.2). No word moves.
 pub fn end_label(stacks: &mut Stacks)
     requires own { stacks.old.frame.labels < length stacks.old.labels.items }
-    ensures { (m : Module) → EndsLabel m stacks.old stacks.new }
+    ensures ends { (m : Module) → EndsLabel m stacks.old stacks.new }
+    ensures fewer { length stacks.new.labels.items + 1 ≡ length stacks.old.labels.items }
+    ensures kept { stacks.new.frames.items ≡ stacks.old.frames.items }
 {
     if let Some(label) = stacks.labels.pop() {
         stacks.frame.at = label.follows;
@@ -81,7 +83,9 @@ pub fn end_label(stacks: &mut Stacks)
 pub fn end_frame(stacks: &mut Stacks) -> bool
     requires none { stacks.old.frame.labels ≡ length stacks.old.labels.items }
     requires fit { LocalsFit stacks.old.frame stacks.old.words.items }
-    ensures { (m : Module) → EndsFrame m stacks.old result stacks.new }
+    ensures ends { (m : Module) → EndsFrame m stacks.old result stacks.new }
+    ensures fewer { result ≡ true → length stacks.new.frames.items + 1 ≡ length stacks.old.frames.items }
+    ensures kept { stacks.new.labels.items ≡ stacks.old.labels.items }
 {
     let frame = stacks.frame;
     leave(&frame, &mut stacks.words);

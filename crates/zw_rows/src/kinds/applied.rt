@@ -84,7 +84,7 @@ pub fn check_applied(alloc: Global, fields: &[Field<'_>]) -> Result<Report, Mist
 }
 
 /// The number of the operator or builtin of this name.
-fn operator_of(word: &str) -> Option<u16> {
+pub fn operator_of(word: &str) -> Option<u16> {
     for (name, number) in OPERATORS {
         if name == word {
             return Some(number);

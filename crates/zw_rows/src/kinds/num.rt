@@ -49,7 +49,7 @@ fn case_of(case: &str) -> Option<(IntTy, i128, i128)>
 }
 
 /// The type of this name.
-fn type_of(name: &str) -> Option<IntTy>
+pub fn type_of(name: &str) -> Option<IntTy>
     ensures { IfSome result IsType }
 {
     if name == "comptime_int" {

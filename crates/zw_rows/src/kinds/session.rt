@@ -1,26 +1,23 @@
-// Rows of sessions: the calls of an exported function of a module that was built from a text, run one after another by the
-// plain interpreter. The bytes that the whole call writes for the text are those of the module that is run.
+// Rows of sessions: the calls of exported functions of a module that a text is built to, run one after another by the machine.
+// The module is read from the bytes that the whole call writes for the text.
 use crate::fields::Field;
+use crate::machines::{Host, call, machine_of, panic_cause};
 use crate::mistake::{Mistake, Problem};
 use crate::report::Report;
-use crate::words::{small, smalls};
+use crate::words::{natural, small, smalls};
 use sqlite_items::Items;
 use std::alloc::Global;
-use zw_base::{Oom, Refused, Word};
+use zw_base::{Oom, Word};
 use zw_drive::zig;
-use zw_form::read_form;
-use zw_lower::lower;
 use zw_outside::{MemSink, MemSource, MemTree};
-use zw_wasm::{
-    Module, Num, RunEnd, RunState, exported_function, exported_global, first_globals, run_function,
-    write,
-};
+use zw_wasm::Num;
+use zw_wasm_run::{Event, Machine, Outcome, Replies};
 
-/// The greatest number of bytes in a text that has tokens.
-const TEXT_LIMIT: usize = 4_194_304;
+/// More bytes than the module of any row has.
+const LIMIT: usize = 1_000_000;
 
-/// More instructions than any call of a row takes.
-const BOUND: u64 = 1_000_000;
+/// The cause of a trap that is a panic.
+const UNREACHABLE: u8 = 1;
 
 /// How a call ended.
 #[derive(Clone, Copy, Debug, PartialEq, Eq)]
@@ -40,13 +37,12 @@ enum End {
 /// What came of the calls of a row by now.
 #[derive(Drop)]
 struct Session {
-    state: RunState,
+    machine: Machine,
+    host: Host,
     /// How the last call ended.
     end: End,
-    /// Whether no more calls are made.
-    is_over: bool,
-    /// The calls that the host is to see.
-    seen: String,
+    /// What the host is to see.
+    sees: String,
 }
 
 /// `session NAME` and a text: `replies N..`, then `call NAME N..` with `gives N`, `panics N`, `wants-reply` or `not-made`
@@ -56,36 +52,23 @@ pub fn check_session(
     head: &Field<'_>,
     fields: &[Field<'_>],
 ) -> Result<Report, Mistake> {
-    let module = module_of(alloc, head)?;
-    let mut report = Report::new(alloc);
-    compare_bytes(alloc, &mut report, &head.bytes, &module)?;
-    check_calls(alloc, fields, &module, &mut report)?;
-    Ok(report)
-}
-
-/// Makes the calls of these lines, and compares how they end and what the host sees.
-fn check_calls(
-    alloc: Global,
-    fields: &[Field<'_>],
-    module: &Module,
-    report: &mut Report,
-) -> Result<(), Mistake> {
     let mut session = Session {
-        state: first_state(alloc, module)?,
+        machine: built(alloc, head)?,
+        host: Host::new(alloc),
         end: End::NotMade,
-        is_over: false,
-        seen: String::new(alloc),
+        sees: String::new(alloc),
     };
+    let mut report = Report::new(alloc);
     for field in fields {
-        session.take(alloc, field, module, report)?;
+        session.take(alloc, field, &mut report)?;
     }
-    let came = shown_calls(alloc, &session.state)?;
+    let seen = shown_events(alloc, &session.host.seen)?;
     report.compare(
         "calls of the host",
-        came.as_bytes(),
-        session.seen.as_bytes(),
+        seen.as_bytes(),
+        session.sees.as_bytes(),
     )?;
-    Ok(())
+    Ok(report)
 }
 
 impl Session {
@@ -94,137 +77,76 @@ impl Session {
         &mut self,
         alloc: Global,
         field: &Field<'_>,
-        module: &Module,
         report: &mut Report,
     ) -> Result<(), Mistake> {
         match field.line.word {
-            "replies" => self.state.replies = replies(alloc, field)?,
+            "replies" => self.host.replies = replies(alloc, field)?,
             "sees" => {
                 let call = field.line.rest;
-                write!(self.seen, "{call}, ")?;
+                write!(self.sees, "{call}, ")?;
             }
-            "call" => self.call(alloc, field, module)?,
+            "call" => self.call(alloc, field)?,
             _ => compare_end(alloc, report, field, self.end)?,
         }
         Ok(())
     }
 
-    /// Makes the call of a line, unless an earlier one ended the session.
-    fn call(&mut self, alloc: Global, field: &Field<'_>, module: &Module) -> Result<(), Mistake> {
-        if self.is_over {
-            self.end = End::NotMade;
-        } else {
-            self.end = call(alloc, field, module, &mut self.state)?;
-            self.is_over = !matches!(self.end, End::Gives(_));
+    /// Makes the call of a line.
+    fn call(&mut self, alloc: Global, field: &Field<'_>) -> Result<(), Mistake> {
+        let (name, args) = match field.line.rest.split_once(' ') {
+            Some(parts) => parts,
+            None => (field.line.rest, ""),
+        };
+        let mut numbers = Vec::new(alloc);
+        for arg in smalls(alloc, field.line, args)? {
+            numbers.push(Num::I32(arg))?;
         }
+        let outcome = call(&mut self.machine, name.as_bytes(), &numbers, &mut self.host)?;
+        self.end = end_of(&self.machine, outcome);
         Ok(())
     }
 }
 
-/// The module of a row's text.
-fn module_of(alloc: Global, head: &Field<'_>) -> Result<Module, Mistake> {
-    if head.bytes.len() > TEXT_LIMIT {
-        return Err(head.wrong(Problem::Refused));
-    }
-    match read_form(alloc, &head.bytes) {
-        Ok(program) => Ok(lower(alloc, &program)?),
-        Err(Refused::Stop(_)) => Err(head.wrong(Problem::Refused)),
-        Err(Refused::Oom) => Err(Mistake::Oom),
-    }
-}
-
-/// What a module begins with, without replies.
-fn first_state(alloc: Global, module: &Module) -> Result<RunState, Oom> {
-    Ok(RunState {
-        globals: first_globals(alloc, module)?,
-        replies: Items::new(alloc),
-        calls: Items::new(alloc),
-    })
-}
-
-/// The replies of a line.
-fn replies(alloc: Global, field: &Field<'_>) -> Result<Items<u64>, Mistake> {
-    let mut list = Items::new(alloc);
-    for word in field.line.rest.split_whitespace() {
-        list.push(crate::words::natural(field.line, word)?)?;
-    }
-    Ok(list)
-}
-
-/// Compares the bytes that building the text writes with those of the module.
-fn compare_bytes(
-    alloc: Global,
-    report: &mut Report,
-    text: &[u8],
-    module: &Module,
-) -> Result<(), Oom> {
+/// A machine of the module that the row's text is built to by the whole call.
+fn built(alloc: Global, head: &Field<'_>) -> Result<Machine, Mistake> {
     let mut words = Vec::new(alloc);
     words.push(Word::copy(alloc, b"build")?)?;
     words.push(Word::copy(alloc, b"a.zig")?)?;
     let mut tree = MemTree::new(alloc, Vec::new(alloc));
-    tree.add(&Word::copy(alloc, b"a.zig")?, text)?;
+    tree.add(&Word::copy(alloc, b"a.zig")?, &head.bytes)?;
     let mut input = MemSource::new(Vec::new(alloc), Vec::new(alloc));
     let mut out = MemSink::new(alloc, Vec::new(alloc), u64::MAX);
     let mut diag = MemSink::new(alloc, Vec::new(alloc), u64::MAX);
     let _ = zig(alloc, &words, &mut tree, &mut input, &mut out, &mut diag);
-    let mut own = MemSink::new(alloc, Vec::new(alloc), u64::MAX);
-    let _ = write(alloc, module, &mut own);
-    report.compare("module", out.taken(), own.taken())
+    let bytes = out.taken();
+    if bytes.len() > LIMIT {
+        return Err(head.wrong(Problem::Refused));
+    }
+    match machine_of(alloc, bytes)? {
+        Some(machine) => Ok(machine),
+        None => Err(head.wrong(Problem::Refused)),
+    }
 }
 
-/// Makes the call of a line.
-fn call(
-    alloc: Global,
-    field: &Field<'_>,
-    module: &Module,
-    state: &mut RunState,
-) -> Result<End, Mistake> {
-    let (name, args) = match field.line.rest.split_once(' ') {
-        Some(parts) => parts,
-        None => (field.line.rest, ""),
-    };
-    let mut numbers = Vec::new(alloc);
-    for arg in smalls(alloc, field.line, args)? {
-        numbers.push(Num::I32(arg))?;
+/// The replies of a line.
+fn replies(alloc: Global, field: &Field<'_>) -> Result<Replies, Mistake> {
+    let mut list = Items::new(alloc);
+    for word in field.line.rest.split_whitespace() {
+        list.push(natural(field.line, word)?)?;
     }
-    Ok(end_of(alloc, module, name.as_bytes(), &numbers, state)?)
+    Ok(Replies::new(list))
 }
 
-/// How a call of an exported function ends.
-fn end_of(
-    alloc: Global,
-    module: &Module,
-    name: &[u8],
-    args: &[Num],
-    state: &mut RunState,
-) -> Result<End, Oom> {
-    let Some(func) = exported_function(module, name) else {
-        return Ok(End::Otherwise);
-    };
-    let imports = module.imports.len();
-    let number = func as usize;
-    if number < imports || number - imports >= module.codes.len() {
-        return Ok(End::Otherwise);
-    }
-    let end = run_function(alloc, module, func, args, state, BOUND)?;
-    Ok(match end {
-        RunEnd::Returned(results, _) => match results.get(0) {
-            Some(Num::I32(n)) => End::Gives(*n),
-            _ => End::Otherwise,
+/// How a call ended with which a machine came here.
+fn end_of(machine: &Machine, outcome: Option<Outcome>) -> End {
+    match outcome {
+        Some(Outcome::Result(Some(Num::I32(n)))) => End::Gives(n),
+        Some(Outcome::Trap(UNREACHABLE)) => match panic_cause(machine) {
+            Some(cause) => End::Panics(cause),
+            None => End::Otherwise,
         },
-        RunEnd::Trapped(1, _) => cause_of(module, state),
-        RunEnd::WantsReply(_) => End::WantsReply,
-        _ => End::Otherwise,
-    })
-}
-
-/// The panic that the state of a module tells, with no message.
-fn cause_of(module: &Module, state: &RunState) -> End {
-    let globals = state.globals.as_slice();
-    let pointer = exported_global(module, globals, b"panic_ptr");
-    let count = exported_global(module, globals, b"panic_len");
-    match exported_global(module, globals, b"panic_cause") {
-        Some(cause) if pointer == Some(0) && count == Some(0) => End::Panics(cause),
+        Some(Outcome::WantsReply) => End::WantsReply,
+        Some(Outcome::Over) => End::NotMade,
         _ => End::Otherwise,
     }
 }
@@ -251,12 +173,12 @@ fn compare_end(
 }
 
 /// The calls that the host saw, as a row has them.
-fn shown_calls(alloc: Global, state: &RunState) -> Result<String, Oom> {
+fn shown_events(alloc: Global, events: &[Event]) -> Result<String, Oom> {
     let mut text = String::new(alloc);
-    for call in state.calls.as_slice() {
-        let import = call.import;
+    for event in events {
+        let import = event.import;
         write!(text, "{import}")?;
-        add_args(&mut text, call.args.as_slice())?;
+        add_args(&mut text, event.args.as_slice())?;
         text.push_str(", ")?;
     }
     Ok(text)

@@ -34,8 +34,8 @@ fn push_immediate(out: &mut Vec<u8>, instr: &Instr) -> Result<(), Oom>
         | Instr::LocalTee(index)
         | Instr::GlobalGet(index)
         | Instr::GlobalSet(index) => push_u32(out, *index),
-        Instr::BrTable { labels, default } => {
-            push_vector(out, labels.as_slice())?;
+        Instr::BrTable { default, labels } => {
+            push_vector(out, labels.get().as_slice())?;
             push_u32(out, *default)
         }
         Instr::CallIndirect(ty) => {

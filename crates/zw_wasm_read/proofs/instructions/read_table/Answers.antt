@@ -13,4 +13,4 @@ pub returns-in_err-default : goal.returns-in_err-default
 returns-in_err-default c = exit IsU32 _ _ _ c.from_residual-in_err-default.ensures.1 c.in_err-default.ensures (λ unfit i rest l. let n = labels_behind i _ _ l in unfit n.1 _ (behind (sure-vector sure-u32) _ c.in_ok-labels.ensures n.2).1)
 
 pub returns : goal.returns
-returns c = as_kind (λ front p. record { same = refl; immediate = p }) (then c.in_ok-labels.ensures c.in_ok-default.ensures)
+returns c = rw c.in_ok-labels-2.ensures (as_kind (λ front p. record { same = refl; immediate = p }) (then c.in_ok-labels.ensures c.in_ok-default.ensures))

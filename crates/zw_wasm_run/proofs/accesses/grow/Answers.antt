@@ -4,8 +4,8 @@ use Rattle.zw_wasm.specs.Reduction.{page_count}
 use Rattle.zw_wasm_run.proofs.Growing.{grow_refused}
 use Rattle.zw_wasm_run.proofs.accesses.grow.Goals as goal
 
-pub returns-else-may_grow : goal.returns-else-may_grow
-returns-else-may_grow c =
+pub returns-else-may_grow-clause-grows : goal.returns-else-may_grow-clause-grows
+returns-else-may_grow-clause-grows c =
     let old = c.args.stack.now.items in
     let memory = c.args.memory.now.items in
     let pages : page_count memory ≡ c.len-pages.result / 65536 = search rules in

@@ -2,8 +2,8 @@ use Rattle.std.proofs.Common.{◌≡◌, ◌+◌, ◌∷◌, ◌++◌, [], lengt
 use Rattle.zw_wasm_run.proofs.Stepping.{ends_label}
 use Rattle.zw_wasm_run.proofs.stacks.end_label.Goals as goal
 
-pub returns-in-Some : goal.returns-in-Some
-returns-in-Some c m =
+pub returns-in-Some-clause-ends : goal.returns-in-Some-clause-ends
+returns-in-Some-clause-ends c m =
     let old = c.args.stacks.now in
     let left = c.pop.new.self.items in
     let parts : old.labels.items ≡ left ++ c.in-Some.label ∷ [] = search rules in

@@ -1,0 +1,9 @@
+use Rattle.std.proofs.Common.{◌+◌, length}
+use Rattle.zw_wasm_run.proofs.Ending.{GoesLike}
+use Rattle.zw_wasm_run.proofs.settle.settle.Given as goal
+
+abbrev pub invariant-ends : goal.invariant-ends
+invariant-ends l = GoesLike l.code l.initial.stacks l.stacks
+
+abbrev pub decreases-ends : goal.decreases-ends
+decreases-ends l = length l.stacks.labels.items + length l.stacks.frames.items

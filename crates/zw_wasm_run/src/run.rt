@@ -1,0 +1,38 @@
+// The instructions of a call, one after another.
+ghost use Rattle.std.specs.Prelude.{IfOk};
+ghost use Rattle.zw_wasm_run.specs.Loops.{IsSound, Pauses};
+
+use crate::code::Code;
+use crate::effect::{Pause, Taken};
+use crate::settle::settle;
+use crate::stacks::Stacks;
+use crate::step::step;
+use crate::store::Store;
+use std::alloc::AllocError;
+
+/// Takes instructions, up to so many, until the call ends, traps, or calls a function of the host. What is left of the bound is
+/// told.
+pub fn go_on(
+    code: &Code,
+    store: &mut Store,
+    stacks: &mut Stacks,
+    steps: &mut u64,
+) -> Result<Pause, AllocError>
+    requires { IsSound code.now store.old stacks.old steps.old }
+    ensures { IfOk result (λ p. Pauses code.now store.old stacks.old steps.old p store.new stacks.new steps.new) }
+{
+    'steps: loop {
+        let Some(instr) = settle(code, stacks) else {
+            return Ok(Pause::Over);
+        };
+        if *steps == 0 {
+            return Ok(Pause::StepsOut);
+        }
+        *steps -= 1;
+        match step(code, instr, store, stacks)? {
+            Taken::Goes => {}
+            Taken::Calls(func) => return Ok(Pause::Calls(func)),
+            Taken::Traps(cause) => return Ok(Pause::Traps(cause)),
+        }
+    }
+}

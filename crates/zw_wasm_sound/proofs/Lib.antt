@@ -1,0 +1,16 @@
+pub mod Operands
+pub mod Labels
+pub mod Standing
+pub mod Acting
+pub mod Branching
+pub mod Entering
+pub mod Doing
+pub mod Sound
+pub mod Checking
+pub mod Finding
+pub mod Accepting
+pub mod Parts
+pub mod Valid
+pub mod Stores
+pub mod Exports
+pub mod Worked

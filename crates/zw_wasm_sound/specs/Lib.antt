@@ -1,0 +1,4 @@
+pub mod Rules
+pub mod Configurations
+pub mod Steps
+pub mod WorkedTypes
