@@ -1,0 +1,6 @@
+mod ArgumentLemmas
+mod LineLemmas
+mod ReplyLemmas
+pub mod RequestLemmas
+mod SourceLemmas
+mod TextLemmas
