@@ -1,0 +1,5 @@
+pub mod Hosts
+pub mod Ends
+pub mod Sessions
+pub mod Runs
+pub mod WorkedSessions
