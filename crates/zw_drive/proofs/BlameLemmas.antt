@@ -57,3 +57,14 @@ out_blamed f g (Err build.Oom) before after status counts says = unblamed f g _ 
 -- the output that nothing was written to
 pub out_unwritten : (faults : ℕ) (ended : Result (Unit {0}) BuildErr) (before after : Option (List ℕ)) (status : Status) → out_failed ended ≡ false → Reports ended before after status → IsBlamed faults faults (code_of status) 9 (10 ∷ 11 ∷ [])
 out_unwritten f ended before after status never says = out_blamed f f ended before after status (subst (λ (b : Bool). Counts f f b) (sym never) refl) says
+
+-- the input, which no command on a tree reads
+pub input_unread : (faults : ℕ) (ended : Result (Unit {0}) BuildErr) (before after : Option (List ℕ)) (status : Status) → Reports ended before after status → IsBlamed faults faults (code_of status) 8 (10 ∷ 11 ∷ [])
+input_unread f (Ok x) before after status says = unblamed f f _ 8 refl (λ e. omega (arith, ap code_of says.own_status))
+input_unread f (Err (build.Stop stop path)) before after status says =
+    unblamed f f _ 8 refl (no_fourth 1 (code_of status) 8 (said_code statuses.Stopped (stop_line path stop) before after status says) (λ e. omega arith) (λ e. omega arith) (λ e. omega arith))
+input_unread f (Err build.TreeFault) before after status says =
+    unblamed f f _ 8 refl (no_fourth 7 (code_of status) 8 (said_code statuses.TreeFault tree_fault_line before after status says) (λ e. omega arith) (λ e. omega arith) (λ e. omega arith))
+input_unread f (Err build.OutFault) before after status says =
+    unblamed f f _ 8 refl (no_fourth 9 (code_of status) 8 (said_code statuses.OutFault out_fault_line before after status says) (λ e. omega arith) (λ e. omega arith) (λ e. omega arith))
+input_unread f (Err build.Oom) before after status says = unblamed f f _ 8 refl (λ e. omega (arith, ap code_of says.own_status))

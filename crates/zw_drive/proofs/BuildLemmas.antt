@@ -1,7 +1,7 @@
 -- The commands on a tree of files end as gathering it, and then as the command on the root's text.
 use Rattle.std.proofs.Common.{◌≡◌, ◌⊎◌, ℕ, ◌≤◌, List, [], ◌++◌, Option, Some, None, Result, Ok, Err, refl, sym, ◌∙◌, ap, subst, inl, inr, slice_index_or, length}
 use Rattle.std.proofs.lemmas.List.{append-nil}
-use Rattle.std.specs.Io.KnownBytes.{Appends}
+use Rattle.std.specs.Io.KnownBytes.{Appends, Consumes}
 use Rattle.zw_base.specs.declared.files.Handed.{Handed}
 use Rattle.zw_base.specs.declared.stop.Stop.{Stop}
 use Rattle.zw_drive.specs.Due.{IsBuildDue, IsCheckDue, IsTreeDue, TreeDue}
@@ -24,6 +24,11 @@ use Rattle.zw_drive.proofs.NamedLemmas.{discovery_named, stop_named}
 pub Appends-none : (taken : Option (List ℕ)) → Appends taken taken []
 Appends-none None = tt
 Appends-none (Some xs) = sym (append-nil xs)
+
+-- of known bytes none were read
+pub Consumes-none : (left : Option (List ℕ)) → Consumes left left []
+Consumes-none None = tt
+Consumes-none (Some xs) = refl
 
 -- the files of a whole discovery are its first ones
 whole_begun : (root : List ℕ) (files : List Handed) (found : Found) (end : Result Found Located) → Discovery root files end → end ≡ Ok found → IsBegun root files

@@ -2,14 +2,17 @@
 use Rattle.std.proofs.Common.{◌≡◌, ◌⊎◌, ℕ, List, [], Option, Some, None, Result, Ok, Err, sym, ◌∙◌, subst, inl, inr}
 use Rattle.zw_base.specs.declared.files.Handed.{Handed}
 use Rattle.zw_base.specs.declared.stop.Stop.{Stop}
-use Rattle.zw_drive.specs.Commands.{CommandLine, Check, Build, Validate, command_of}
+use Rattle.zw_drive.specs.Commands.{CommandLine, Check, Build, Validate, Exec}
 use Rattle.zw_drive.specs.Due.{IsBuildDue, IsCheckDue, IsCommandDue, IsDue, IsEndDue, IsModule, IsStop, IsStopDue, IsTreeDue, TreeDue}
+use Rattle.zw_drive.specs.Inputs.{Reading}
 use Rattle.zw_files.specs.Discovery.{Found, Located, root_text}
 use Rattle.zw_files.proofs.DiscoveryLemmas.{one-end}
 use Rattle.zw_form.proofs.FormLemmas.{one_stop-of, stop_or_form}
 use Rattle.zw_form.specs.Form.{HasForm, IsStopOf}
 use Rattle.zw_form.specs.Trees.{Tree}
 use Rattle.zw_parse.proofs.SyntaxLemmas.{tree_once, stop_once, tree_not_stop}
+use Rattle.zw_drive.proofs.CommandLemmas.{one_asked}
+use Rattle.zw_drive.proofs.ExecDueLemmas.{one_exec}
 use Rattle.zw_drive.proofs.ValidateDueLemmas.{one_validate}
 
 -- the same status and the same line
@@ -61,12 +64,15 @@ module _ (due : TreeDue) (one : IsOne due) (root : List ℕ) where
       one_end_due h.end s t out out' line line' h.end_due
       (subst (λ (end : Result Found Located). IsEndDue due root end t out' line') (one-end root files k.end h.end k.discovery h.discovery) k.end_due)
 
-one_command : (asked : Option CommandLine) (files : List Handed) (s t : ℕ) (out out' line line' : List ℕ) → IsCommandDue asked files s out line → IsCommandDue asked files t out' line' → IsSame s t line line'
-one_command None files s t out out' line line' h k = (h.status_is ∙ sym k.status_is, h.line_is ∙ sym k.line_is)
-one_command (Some (Check root)) files s t out out' line line' h k = one_tree_due IsCheckDue one_check root files s t out out' line line' h k
-one_command (Some (Build root)) files s t out out' line line' h k = one_tree_due IsBuildDue one_build root files s t out out' line line' h k
-one_command (Some (Validate file)) files s t out out' line line' h k = one_validate file files s t out out' line line' h k
+one_command : (asked : Option CommandLine) (files : List Handed) (reading : Reading) (s t : ℕ) (out out' line line' : List ℕ) → IsCommandDue asked files reading s out line → IsCommandDue asked files reading t out' line' → IsSame s t line line'
+one_command None files reading s t out out' line line' h k = (h.1.status_is ∙ sym k.1.status_is, h.1.line_is ∙ sym k.1.line_is)
+one_command (Some (Check root)) files reading s t out out' line line' h k = one_tree_due IsCheckDue one_check root files s t out out' line line' h.1 k.1
+one_command (Some (Build root)) files reading s t out out' line line' h k = one_tree_due IsBuildDue one_build root files s t out out' line line' h.1 k.1
+one_command (Some (Validate file)) files reading s t out out' line line' h k = one_validate file files s t out out' line line' h.1 k.1
+one_command (Some (Exec request)) files reading s t out out' line line' h k = one_exec request files reading s t out out' line line' h k
 
--- for the same words and files
-pub one_due_lem : (words : List (List ℕ)) (files : List Handed) (s t : ℕ) (out out' line line' : List ℕ) → IsDue words files s out line → IsDue words files t out' line' → IsSame s t line line'
-one_due_lem words files s t out out' line line' h k = one_command (command_of words) files s t out out' line line' h k
+-- for the same words, files and input
+pub one_due_lem : (words : List (List ℕ)) (files : List Handed) (reading : Reading) (s t : ℕ) (out out' line line' : List ℕ) → IsDue words files reading s out line → IsDue words files reading t out' line' → IsSame s t line line'
+one_due_lem words files reading s t out out' line line' h k =
+    one_command h.asked files reading s t out out' line line' h.due
+    (subst (λ (asked : Option CommandLine). IsCommandDue asked files reading t out' line') (one_asked words k.asked h.asked k.asks h.asks) k.due)

@@ -17,7 +17,7 @@ use Rattle.zw_wasm_read.proofs.Excluded.{no_module}
 use Rattle.zw_wasm_read.proofs.Stopping.{one_stop}
 use Rattle.zw_wasm_read.proofs.Tails.{one_module}
 
-abbrev IsSame : ℕ → ℕ → List ℕ → List ℕ → Type 0
+abbrev pub IsSame : ℕ → ℕ → List ℕ → List ℕ → Type 0
 IsSame status other line another = (status ≡ other) × (line ≡ another)
 
 -- the first violation of what the bytes spell is one
@@ -29,7 +29,7 @@ one_violation bytes m o v w b c e f =
 stopped : (bytes : List ℕ) (at : ℕ) (code : BadCode) (m : Module) → IsStop bytes at code → ModuleBytes m bytes → ⊥
 stopped bytes at code m stop b = no_module bytes at code stop m b
 
-one_refusal : (bytes : List ℕ) (r s : Refusal) → Refuses bytes r → Refuses bytes s → r ≡ s
+pub one_refusal : (bytes : List ℕ) (r s : Refusal) → Refuses bytes r → Refuses bytes s → r ≡ s
 one_refusal bytes refusal.Absent s h k = absurd h
 one_refusal bytes refusal.TooLong s h k = absurd h
 one_refusal bytes (refusal.Unread at code) refusal.Absent h k = absurd k
@@ -58,7 +58,7 @@ one_refusal bytes (refusal.Body func at code) (refusal.Body func' at' code') h k
 valid_violation : (m : Module) (v : Violation) → first_violation m ≡ None → first_violation m ≡ Some v → ⊥
 valid_violation m v none some = let wrong : None ≡ Some v = sym none ∙ some in absurd cc
 
-valid_or_refused : (bytes : List ℕ) (r : Refusal) → SpellValid bytes → Refuses bytes r → ⊥
+pub valid_or_refused : (bytes : List ℕ) (r : Refusal) → SpellValid bytes → Refuses bytes r → ⊥
 valid_or_refused bytes refusal.Absent h k = k
 valid_or_refused bytes refusal.TooLong h k = k
 valid_or_refused bytes (refusal.Unread at code) h k = stopped bytes at code h.0 k h.1
@@ -85,7 +85,7 @@ one_file file answers.Absent s t out out' line line' h k = (h.status_is ∙ sym 
 one_file file answers.TooLong s t out out' line line' h k = (h.status_is ∙ sym k.status_is, h.line_is ∙ sym k.line_is)
 one_file file (answers.Bytes bytes) s t out out' line line' h k = one_choice file bytes s t out out' line line' h.due k.due
 
-abbrev first_of : List Handed → Answer → Answer
+abbrev pub first_of : List Handed → Answer → Answer
 first_of [] a = a
 first_of (pair ∷ pairs) a = pair.answer
 

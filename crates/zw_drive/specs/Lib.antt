@@ -4,8 +4,13 @@ pub mod Statuses
 pub mod Fronts
 pub mod Refusals
 pub mod Validate
+pub mod Inputs
+pub mod Denials
+pub mod Exec
+pub mod ExecEnds
 pub mod Meaning
 pub mod Due
 pub mod Ends
 pub mod ValidateReports
+pub mod ExecReports
 pub mod Laws

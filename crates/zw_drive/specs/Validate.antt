@@ -65,16 +65,16 @@ IsValidateDue file files status out line =
 -- ---- how the parts end
 
 -- how judging bytes ends
-abbrev pub Judges : List ℕ → Result (Unit {0}) ValidateErr → Type 0
-Judges bytes (Ok x) = SpellValid bytes
+abbrev pub Judges : List ℕ → Result Module ValidateErr → Type 0
+Judges bytes (Ok m) = ModuleBytes m bytes × IsValid m
 Judges bytes (Err (validate.Refused r)) = Refuses bytes r
 Judges bytes (Err validate.TreeFault) = ⊥
 Judges bytes (Err validate.OutFault) = ⊥
 Judges bytes (Err validate.Oom) = Unit {0}
 
 -- how judging a module ends
-abbrev pub JudgesModule : Module → Result (Unit {0}) ValidateErr → Type 0
-JudgesModule m (Ok x) = IsValid m
+abbrev pub JudgesModule : Module → Result Module ValidateErr → Type 0
+JudgesModule m (Ok checked) = (checked ≡ m) × IsValid m
 JudgesModule m (Err (validate.Refused refusal.Absent)) = ⊥
 JudgesModule m (Err (validate.Refused refusal.TooLong)) = ⊥
 JudgesModule m (Err (validate.Refused (refusal.Unread at code))) = ⊥
@@ -117,10 +117,16 @@ out_failed (Err validate.TreeFault) = false
 out_failed (Err validate.OutFault) = true
 out_failed (Err validate.Oom) = false
 
+-- there are no bytes of the file, and this refuses it
+abbrev pub IsNoFile : Answer → Refusal → Type 0
+IsNoFile answers.Absent r = r ≡ refusal.Absent
+IsNoFile answers.TooLong r = r ≡ refusal.TooLong
+IsNoFile (answers.Bytes bytes) r = ⊥
+
 -- how the load of the file ends
 abbrev pub FileLoads : List ℕ → List Handed → List Handed → Result (Vec ℕ Global) ValidateErr → Type 0
 FileLoads file old new (Ok bytes) = (new ≡ old ++ record { path = file; answer = answers.Bytes bytes.items } ∷ []) × (length bytes.items ≤ MODULE_LIMIT)
-FileLoads file old new (Err (validate.Refused r)) = (answer : Answer) × (new ≡ old ++ record { path = file; answer = answer } ∷ []) × IsFileDue file answer (code_of (status_of r)) [] (refusal_line file r)
+FileLoads file old new (Err (validate.Refused r)) = (answer : Answer) × (new ≡ old ++ record { path = file; answer = answer } ∷ []) × IsNoFile answer r
 FileLoads file old new (Err validate.TreeFault) = new ≡ old
 FileLoads file old new (Err validate.OutFault) = ⊥
 FileLoads file old new (Err validate.Oom) = new ≡ old

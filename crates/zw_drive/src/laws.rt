@@ -2,12 +2,13 @@
 ghost use Rattle.std.specs.Prelude.{◌≡◌, ℕ, List};
 ghost use Rattle.zw_base.specs.declared.files.Handed.{Handed};
 ghost use Rattle.zw_drive.specs.Due.{IsDue};
+ghost use Rattle.zw_drive.specs.Inputs.{Reading};
 ghost use Rattle.zw_form.specs.Trees.{Tree};
 ghost use Rattle.zw_drive.specs.Laws.{EndsAreKept, SessionsAreOfFittingCalls};
 
-/// No two statuses and no two lines are due for the same words and files.
+/// No two statuses and no two lines are due for the same words, files and input.
 pub fn one_due()
-    ensures { (words : List (List ℕ)) (files : List Handed) (status other : ℕ) (out more line another : List ℕ) → IsDue words files status out line → IsDue words files other more another → (status ≡ other) × (line ≡ another) }
+    ensures { (words : List (List ℕ)) (files : List Handed) (reading : Reading) (status other : ℕ) (out more line another : List ℕ) → IsDue words files reading status out line → IsDue words files reading other more another → (status ≡ other) × (line ≡ another) }
 {}
 
 /// A session that ended stays ended with the same record under a larger bound, at a file of the form and at a module.

@@ -5,10 +5,14 @@
 mod build;
 mod command;
 mod compile;
+mod denial;
 mod drive;
+mod exec;
 mod laws;
 mod lines;
+mod prepare;
 mod refusal;
+mod report;
 mod say;
 mod status;
 mod validate;

@@ -15,7 +15,7 @@ use std::alloc::Global;
 use thiserror::Error;
 use zw_base::{LoadErr, PutErr, Sink, Tree, Word, put_all};
 use zw_wasm::Module;
-use zw_wasm_check::{CheckErr, check};
+use zw_wasm_check::{CheckErr, Checked, check};
 use zw_wasm_read::{ReadErr, read};
 
 /// The greatest number of bytes in a module's file.
@@ -55,7 +55,7 @@ pub fn validate<T: Tree, O: Sink>(
 }
 
 /// The bytes of the file.
-fn load<T: Tree>(alloc: Global, file: &Word, tree: &mut T) -> Result<Vec<u8>, ValidateErr>
+pub fn load<T: Tree>(alloc: Global, file: &Word, tree: &mut T) -> Result<Vec<u8>, ValidateErr>
     ensures ends { FileLoads file.now (T.loaded tree.old) (T.loaded tree.new) result }
     ensures cause { Counts (T.faults tree.old) (T.faults tree.new) (tree_failed result) }
 {
@@ -74,10 +74,11 @@ fn validate_bytes<O: Sink>(alloc: Global, bytes: &[u8], out: &mut O) -> Result<(
     ensures ends { ValidatesBytes bytes.now (O.taken out.old) (O.taken out.new) result }
     ensures cause { Counts (O.faults out.old) (O.faults out.new) (out_failed result) }
 {
-    match judge(alloc, bytes) {
-        Ok(()) => accept(out),
-        Err(e) => Err(e),
-    }
+    let _checked = match judge(alloc, bytes) {
+        Ok(m) => m,
+        Err(e) => return Err(e),
+    };
+    accept(out)
 }
 
 /// Writes `valid` to `out`.
@@ -92,8 +93,8 @@ fn accept<O: Sink>(out: &mut O) -> Result<(), ValidateErr>
     }
 }
 
-/// Reads bytes as a module, and checks it.
-fn judge(alloc: Global, bytes: &[u8]) -> Result<(), ValidateErr>
+/// The valid module that bytes spell.
+pub fn judge(alloc: Global, bytes: &[u8]) -> Result<Checked, ValidateErr>
     requires { length bytes.now ≤ MODULE_LIMIT }
     ensures { Judges bytes.now result }
 {
@@ -105,12 +106,12 @@ fn judge(alloc: Global, bytes: &[u8]) -> Result<(), ValidateErr>
 }
 
 /// Checks a module that some bytes spell.
-fn judge_module(alloc: Global, m: Module) -> Result<(), ValidateErr>
+fn judge_module(alloc: Global, m: Module) -> Result<Checked, ValidateErr>
     requires { HasBytes m }
     ensures { JudgesModule m result }
 {
     match check(alloc, m) {
-        Ok(_) => Ok(()),
+        Ok(m) => Ok(m),
         Err(CheckErr::Outside { section, entry }) => {
             Err(ValidateErr::Refused(Refusal::Outside { section, entry }))
         }
