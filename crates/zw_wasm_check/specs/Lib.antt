@@ -5,3 +5,4 @@ pub mod Names
 pub mod Stacks
 pub mod Bodies
 pub mod Check
+pub mod Texts

@@ -36,6 +36,11 @@ impl From<AllocError> for CheckErr {
 }
 
 impl fmt::Display for CheckErr {
+    ghost use Rattle.std.specs.Prelude.{Some};
+    ghost use Rattle.zw_wasm_check.specs.Texts.{text_of};
+
+    ghost output = { λ e. Some (text_of e) };
+
     fn fmt<W: fmt::Write>(&self, f: &mut fmt::Formatter<W>) -> fmt::Result {
         match self {
             CheckErr::Outside { section, entry } => write!(f, "section {section}, entry {entry}"),

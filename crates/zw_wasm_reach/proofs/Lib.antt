@@ -1,0 +1,5 @@
+pub mod Opening
+pub mod Depths
+pub mod Fitting
+pub mod Acting
+pub mod Reaching
