@@ -3,11 +3,12 @@ use Rattle.std.proofs.Common.{◌≡◌, ◌⊎◌, ℕ, List, [], ◌∷◌, Op
 use Rattle.zw_base.specs.Faults.{Counts}
 use Rattle.zw_drive.specs.Due.{IsBlamed}
 use Rattle.zw_drive.specs.Ends.{Reports, Says, code_of, tree_failed, out_failed}
-use Rattle.zw_drive.specs.Lines.{stop_line, tree_fault_line, out_fault_line}
+use Rattle.zw_drive.specs.Lines.{tree_fault_line, out_fault_line}
 use Rattle.zw_drive.specs.declared.build.BuildErr.{BuildErr}
 use Rattle.zw_drive.specs.declared.build.BuildErr.TheVariants as build
 use Rattle.zw_drive.specs.declared.status.Status.{Status}
 use Rattle.zw_drive.specs.declared.status.Status.TheVariants as statuses
+use Rattle.zw_report.specs.StopLines.{stop_line}
 
 -- a said line has its own status, or 10 or 11
 abbrev pub OneOf : ℕ → ℕ → Type 0

@@ -1,12 +1,11 @@
 -- The commands on a tree of files end as gathering it, and then as the command on the root's text.
-use Rattle.std.proofs.Common.{◌≡◌, ◌⊎◌, ℕ, ◌≤◌, List, [], ◌++◌, Option, Some, None, Result, Ok, Err, refl, sym, ◌∙◌, ap, subst, inl, inr, slice_index_or, length}
+use Rattle.std.proofs.Common.{◌≡◌, ℕ, ◌≤◌, List, [], Option, Some, None, Result, Ok, Err, refl, sym, ◌∙◌, ap, subst, inl, inr, slice_index_or, length}
 use Rattle.std.proofs.lemmas.List.{append-nil}
 use Rattle.std.specs.Io.KnownBytes.{Appends, Consumes}
 use Rattle.zw_base.specs.declared.files.Handed.{Handed}
 use Rattle.zw_base.specs.declared.stop.Stop.{Stop}
 use Rattle.zw_drive.specs.Due.{IsBuildDue, IsCheckDue, IsTreeDue, TreeDue}
 use Rattle.zw_drive.specs.Ends.{ChecksTree, HasNamedStop, IsInRoot, TextChecks, TextEnds, TreeEnds, WritesText, WritesTree, ungathered}
-use Rattle.zw_drive.specs.Lines.{stop_line}
 use Rattle.zw_drive.specs.Meaning.{Builds}
 use Rattle.zw_drive.specs.declared.build.BuildErr.{BuildErr}
 use Rattle.zw_drive.specs.declared.build.BuildErr.TheVariants as build
@@ -18,6 +17,7 @@ use Rattle.zw_files.specs.declared.file_set.FileSet.{FileSet}
 use Rattle.zw_files.specs.declared.stops.TheConstants.{FILE_LIMIT}
 use Rattle.zw_files.proofs.RootLemmas.{root-short}
 use Rattle.zw_form.specs.Form.{IsStopOf}
+use Rattle.zw_report.specs.StopLines.{stop_line}
 use Rattle.zw_drive.proofs.NamedLemmas.{discovery_named, stop_named}
 
 -- known bytes that stay grow by nothing

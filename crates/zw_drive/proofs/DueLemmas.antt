@@ -1,5 +1,5 @@
 -- No two statuses and no two lines are due for the same words and files.
-use Rattle.std.proofs.Common.{◌≡◌, ◌⊎◌, ℕ, List, [], Option, Some, None, Result, Ok, Err, sym, ◌∙◌, subst, inl, inr}
+use Rattle.std.proofs.Common.{◌≡◌, ℕ, List, Option, Some, None, Result, Ok, Err, sym, ◌∙◌, subst, inl, inr}
 use Rattle.zw_base.specs.declared.files.Handed.{Handed}
 use Rattle.zw_base.specs.declared.stop.Stop.{Stop}
 use Rattle.zw_drive.specs.Commands.{CommandLine, Check, Build, Validate, Exec}

@@ -9,10 +9,9 @@ use Rattle.zw_calls.specs.Replies.{AreReplies, first_bad}
 use Rattle.zw_calls.specs.Requests.{Call, Request}
 use Rattle.zw_calls.specs.declared.replies.ReplyErr.{ReplyErr}
 use Rattle.zw_calls.specs.declared.replies.ReplyErr.TheVariants as reply
-use Rattle.zw_drive.specs.Denials.{denial_line, denial_status}
-use Rattle.zw_drive.specs.Exec.{AreCalls, AreCallsDue, AreExecBytesDue, ArePrepared, AreRepliesDue, IsCall, IsDenied, IsDeniedAtOnce, IsDeniedCall, IsExecDue, IsExecFileDue, IsInputDue, IsModuleDue, IsRefusedDue, IsRunDue, Prepares, session_call}
+use Rattle.zw_drive.specs.Denials.{denial_line}
+use Rattle.zw_drive.specs.Exec.{AreCalls, AreCallsDue, AreExecBytesDue, ArePrepared, AreRepliesDue, IsCall, IsDeniedAtOnce, IsDeniedCall, IsExecDue, IsExecFileDue, IsInputDue, IsModuleDue, IsRefusedDue, IsRunDue, session_call}
 use Rattle.zw_drive.specs.Inputs.{Reading}
-use Rattle.zw_drive.specs.Statuses.{code_of}
 use Rattle.zw_drive.specs.declared.denial.Denial.{Denial}
 use Rattle.zw_drive.specs.declared.denial.Denial.TheVariants as denial
 use Rattle.zw_drive.specs.declared.refusal.Refusal.{Refusal}
@@ -21,7 +20,7 @@ use Rattle.zw_wasm.specs.Functions.{func_type}
 use Rattle.zw_wasm.specs.ModuleMachine.{export_in, param_types}
 use Rattle.zw_wasm.specs.declared.module.Module.{Module}
 use Rattle.zw_wasm.specs.declared.module.TheConstants.ExportDef.{FUNC}
-use Rattle.zw_wasm_run.specs.Segments.{first_outside}
+use Rattle.zw_wasm_words.specs.Segments.{first_outside}
 use Rattle.zw_wasm_read.proofs.Tails.{one_module}
 use Rattle.zw_drive.proofs.ValidateDueLemmas.{IsSame, first_of, one_refusal, valid_or_refused}
 

@@ -1,8 +1,7 @@
 -- Running calls of a module's file ends as its parts end.
-use Rattle.std.proofs.Common.{◌≡◌, ◌⊎◌, ℕ, ◌≤◌, List, [], ◌∷◌, ◌++◌, take, length, Option, Some, None, Result, Ok, Err, refl, sym, ◌∙◌, ap, subst, inl, inr, lit≤}
+use Rattle.std.proofs.Common.{◌≡◌, ℕ, ◌≤◌, List, [], ◌∷◌, ◌++◌, take, length, Option, Result, Ok, Err, refl, sym, ◌∙◌, subst, inl, inr, lit≤}
 use Rattle.std.proofs.lemmas.List.{append-nil}
-use Rattle.std.specs.Io.KnownBytes.{Appends, IsAtEnd}
-use Rattle.zw_base.specs.Outside.{AppendsFront}
+use Rattle.std.specs.Io.KnownBytes.{IsAtEnd}
 use Rattle.zw_base.specs.declared.files.Answer.{Answer}
 use Rattle.zw_base.specs.declared.files.Answer.TheVariants as answers
 use Rattle.zw_base.specs.declared.files.Handed.{Handed}
@@ -10,27 +9,23 @@ use Rattle.zw_calls.specs.Input.{IsFront, IsInput}
 use Rattle.zw_calls.specs.Replies.{AreReplies}
 use Rattle.zw_calls.specs.Requests.{Call, Request}
 use Rattle.zw_calls.specs.declared.replies.ReplyErr.TheVariants as reply
-use Rattle.zw_drive.specs.Exec.{AreCallsDue, AreExecBytesDue, AreReady, IsExecDue, IsInputDue, IsModuleDue, IsReady, Prepares, told_of}
+use Rattle.zw_drive.specs.Exec.{AreExecBytesDue, AreReady, IsExecDue, IsInputDue, IsModuleDue, IsReady, told_of}
 use Rattle.zw_drive.specs.ExecEnds.{BytesEnd, CallsEnd, CanBeCalled, Due, EndsWith, FileEnds, InputEnds, IsCutOut, IsPrepared, ModuleEnds, PreparationEnds, Runs, RunsFile, WritesSession, judged_end}
 use Rattle.zw_drive.specs.Inputs.{IsUnread, Reading}
 use Rattle.zw_drive.specs.Validate.{FileLoads, IsFileAtMost, IsNoFile, Judges}
-use Rattle.zw_drive.specs.declared.denial.Denial.{Denial}
 use Rattle.zw_drive.specs.declared.denial.Denial.TheVariants as denial
 use Rattle.zw_drive.specs.declared.exec.ExecErr.{ExecErr}
 use Rattle.zw_drive.specs.declared.exec.ExecErr.TheVariants as exec
 use Rattle.zw_drive.specs.declared.prepare.Prepared.{Prepared}
 use Rattle.zw_drive.specs.declared.refusal.Refusal.{Refusal}
-use Rattle.zw_drive.specs.declared.refusal.Refusal.TheVariants as refusal
 use Rattle.zw_drive.specs.declared.validate.TheConstants.{MODULE_LIMIT}
 use Rattle.zw_drive.specs.declared.validate.ValidateErr.{ValidateErr}
 use Rattle.zw_drive.specs.declared.validate.ValidateErr.TheVariants as validate
 use Rattle.zw_exec.specs.Ends.{status_of}
-use Rattle.zw_exec.specs.Runs.{IsIdle, state_of}
-use Rattle.zw_exec.specs.Sessions.{Told, Writes, session}
+use Rattle.zw_exec.specs.Runs.{IsIdle}
 use Rattle.zw_exec.specs.declared.call.SessionCall.{SessionCall}
 use Rattle.zw_exec.specs.declared.end.SessionEnd.{SessionEnd}
 use Rattle.zw_wasm.specs.ModuleBytes.{ModuleBytes}
-use Rattle.zw_wasm.specs.Reduction.{Store}
 use Rattle.zw_wasm.specs.Validity.{IsValid}
 use Rattle.zw_wasm.specs.declared.module.Module.{Module}
 use Rattle.zw_drive.proofs.BuildLemmas.{Appends-none, Consumes-none}
@@ -129,17 +124,6 @@ own_code m calls p h = subst (λ (code : Module). IsPrepared code calls p) (sym 
 
 pub idle : (calls : List Call) (p : Prepared) → IsPrepared p.machine.code calls p → IsIdle p.machine
 idle calls p h = record { goes_on = h.begins.runs; shows_none = h.begins.shown }
-
--- the session of a new machine is that of the module
-told_same : (request : Request) (p : Prepared) (replies : List ℕ) → IsPrepared p.machine.code request.calls p → session p.machine.code p.calls.items (state_of p.machine replies request.steps) ≡ told_of p.machine.code request p.calls.items replies
-told_same request p replies h = ap (λ (s : Store). session p.machine.code p.calls.items (record { store = s; replies = replies; steps = request.steps })) h.begins.store
-
-module _ (request : Request) (p : Prepared) (replies : List ℕ) (old new : Option (List ℕ)) (h : IsPrepared p.machine.code request.calls p) where
-  pub session_written : (end : SessionEnd) → Writes (session p.machine.code p.calls.items (state_of p.machine replies request.steps)) old new (Ok end) → WritesSession (told_of p.machine.code request p.calls.items replies) old new (Ok end)
-  session_written end w = subst (λ (t : Told). Appends old new t.text × (end ≡ t.end)) (told_same request p replies h) w
-
-  pub session_cut : AppendsFront old new (session p.machine.code p.calls.items (state_of p.machine replies request.steps)).text → AppendsFront old new (told_of p.machine.code request p.calls.items replies).text
-  session_cut w = subst (λ (t : Told). AppendsFront old new t.text) (told_same request p replies h) w
 
 -- ---- a module
 

@@ -1,5 +1,5 @@
 -- Calls of a module's file were run, or not, and that was reported.
-use Rattle.std.proofs.Common.{◌≡◌, ◌⊎◌, ℕ, List, [], ◌∷◌, length, Option, Some, Result, Ok, Err, refl, sym, ◌∙◌, ap, subst, inl, inr, arith}
+use Rattle.std.proofs.Common.{◌≡◌, ℕ, List, [], ◌∷◌, Option, Some, Result, Ok, Err, refl, sym, ◌∙◌, ap, subst, inl, inr, arith}
 use Rattle.std.specs.Io.KnownBytes.{Appends}
 use Rattle.zw_base.specs.Faults.{Counts}
 use Rattle.zw_base.specs.declared.files.Handed.{Handed}
@@ -10,7 +10,7 @@ use Rattle.zw_drive.specs.Due.{Ends, IsBlamed, IsDue, IsWhole, Serves}
 use Rattle.zw_drive.specs.Exec.{IsExecDue}
 use Rattle.zw_drive.specs.ExecEnds.{FileEnds, IsCutOut, RunsFile, input_fault, out_fault, tree_fault}
 use Rattle.zw_drive.specs.ExecReports.{ReportsExec, session_status}
-use Rattle.zw_drive.specs.Ends.{IsSilent, Says}
+use Rattle.zw_drive.specs.Ends.{IsSilent}
 use Rattle.zw_drive.specs.Inputs.{Reading}
 use Rattle.zw_drive.specs.Lines.{tree_fault_line, input_fault_line, out_fault_line}
 use Rattle.zw_drive.specs.Statuses.{code_of}
@@ -24,7 +24,7 @@ use Rattle.zw_drive.specs.declared.status.Status.TheVariants as statuses
 use Rattle.zw_exec.specs.Ends.{status_of}
 use Rattle.zw_exec.specs.declared.end.SessionEnd.{SessionEnd}
 use Rattle.zw_exec.specs.declared.end.SessionEnd.TheVariants as session
-use Rattle.zw_drive.proofs.BlameLemmas.{OneOf, said_code, unblamed, blamed, no_fourth}
+use Rattle.zw_drive.proofs.BlameLemmas.{said_code, unblamed, blamed, no_fourth}
 use Rattle.zw_drive.proofs.BuildLemmas.{Appends-none}
 use Rattle.zw_drive.proofs.ServeLemmas.{front_all, said_ends}
 

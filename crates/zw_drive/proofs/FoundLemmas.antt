@@ -1,5 +1,5 @@
 -- The loop over the calls of a session.
-use Rattle.std.proofs.Common.{◌≡◌, ℕ, zero, suc, ◌+◌, ◌<◌, ◌≤◌, Bool, true, false, ◌&&◌, List, [], ◌∷◌, ◌++◌, length, map, drop, get_or, drop-cons, add-one, Result, Ok, Err, refl, sym, subst, arith}
+use Rattle.std.proofs.Common.{◌≡◌, ℕ, zero, suc, ◌+◌, ◌<◌, ◌≤◌, Bool, true, false, ◌&&◌, List, [], ◌∷◌, ◌++◌, length, map, drop, get_or, drop-cons, add-one, Ok, Err, refl, sym, subst, arith}
 use Rattle.std.specs.List.{list_all}
 use Rattle.zw_calls.specs.Requests.{call_of, is_call}
 use Rattle.zw_calls.specs.declared.request.CallWords.{CallWords}

@@ -1,5 +1,5 @@
 -- Each stop of a tree of files is an error or a limit that has a name.
-use Rattle.std.proofs.Common.{◌≡◌, ◌⊎◌, ℕ, ◌≤◌, Bool, true, false, nat_lt, MatchBool, List, [], ◌∷◌, ◌++◌, ◌+◌, length, sum, Some, None, Option, Result, Ok, Err, sym, ap, ◌∙◌, subst, inl, inr, arith, lit≤, if◌then◌else◌, refl}
+use Rattle.std.proofs.Common.{◌≡◌, ◌⊎◌, ℕ, ◌≤◌, Bool, true, false, nat_lt, MatchBool, List, [], ◌∷◌, ◌++◌, ◌+◌, length, sum, Some, None, Option, Result, Ok, Err, sym, ap, subst, inl, inr, arith, lit≤, if◌then◌else◌, refl}
 use Rattle.std.specs.List.{list_any, position_or_len}
 use Rattle.std.specs.Str.{bytes_eq}
 use Rattle.zw_base.specs.declared.files.Answer.{Answer}
@@ -7,8 +7,7 @@ use Rattle.zw_base.specs.declared.files.Answer.TheVariants.{Bytes, Absent, TooLo
 use Rattle.zw_base.specs.declared.files.Handed.{Handed}
 use Rattle.zw_base.specs.declared.stop.Place.{Place}
 use Rattle.zw_base.specs.declared.stop.Stop.{Stop}
-use Rattle.zw_drive.specs.Lines.{IsNamed}
-use Rattle.zw_files.specs.Discovery.{Discovery, Found, IsStopOfText, Located, Paths, Reads, ReadsAnswer, Turn, and_then, breaks_names, follow, follow_all, followed, located, name_path, name_resolved, no_tokens, no_tree, refused, root_place, stop, stopped, taken, text_of, whole, with_path}
+use Rattle.zw_files.specs.Discovery.{Discovery, Found, IsStopOfText, Located, Paths, Reads, ReadsAnswer, Turn, and_then, breaks_names, follow, follow_all, followed, name_path, name_resolved, no_tokens, no_tree, refused, root_place, stop, stopped, taken, text_of, whole, with_path}
 use Rattle.zw_files.specs.Imports.{Import, imports}
 use Rattle.zw_files.specs.Paths.{resolved}
 use Rattle.zw_files.specs.declared.stops.TheConstants.{FILE_ABSENT, FILE_LENGTH, FILES, FILES_LIMIT, IMPORT_PATH, TREE_LENGTH, TREE_LIMIT}
@@ -17,6 +16,7 @@ use Rattle.zw_form.specs.Form.{IsStopOf}
 use Rattle.zw_form.specs.Members.{Member, IsFirstStop, IsMemberStop, IsWeightStop}
 use Rattle.zw_form.specs.declared.source.Declaration.{Declaration}
 use Rattle.zw_parse.specs.Syntax.{IsSyntaxStop, wrong, nested}
+use Rattle.zw_report.specs.StopLines.{IsNamed}
 use Rattle.zw_token.specs.ErrorNumbers.{number_of_error}
 use Rattle.zw_token.specs.declared.token.TextError.{TextError}
 use Rattle.zw_token.specs.declared.token.TextError.TheVariants.{BadByte, BadToken, BadLiteral, NotInProfile}

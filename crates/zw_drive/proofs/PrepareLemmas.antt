@@ -1,13 +1,12 @@
 -- The calls of a session, as they are found one by one.
-use Rattle.std.proofs.Common.{◌≡◌, ◌⊎◌, ℕ, suc, ◌+◌, ◌-◌, ◌*◌, ◌%◌, ◌^◌, ◌<◌, ◌≤◌, List, [], ◌∷◌, ◌++◌, length, map, drop, Option, Some, None, Result, Ok, Err, Bool, true, false, refl, sym, ◌∙◌, ap, subst, inl, inr, arith, ℤ, pos, negsuc, append_assoc}
+use Rattle.std.proofs.Common.{◌≡◌, ℕ, suc, ◌-◌, ◌%◌, List, [], ◌∷◌, ◌++◌, length, map, Option, Some, None, Result, Ok, Err, true, false, refl, sym, ◌∙◌, ap, subst, inl, inr, arith, pos, negsuc, append_assoc}
 use Rattle.std.proofs.lemmas.List.{append-nil}
 use Rattle.std.specs.List.{AllByRecursion}
-use Rattle.zw_calls.specs.Arguments.{AreArguments, Fit, IsTaken, argument_of, number_of, typed, typed_all}
-use Rattle.zw_calls.specs.Numbers.{modulo}
+use Rattle.zw_calls.specs.Arguments.{AreArguments, Fit, argument_of, number_of, typed, typed_all}
 use Rattle.zw_calls.specs.Requests.{Call}
 use Rattle.zw_calls.specs.declared.arguments.Arguments.{Arguments}
-use Rattle.zw_drive.specs.Exec.{AreCalls, ArePrepared, IsCall, IsDeniedCall, Prepares, session_call}
-use Rattle.zw_drive.specs.ExecEnds.{CallEnds, IsNamedDenial, PreparationEnds}
+use Rattle.zw_drive.specs.Exec.{AreCalls, ArePrepared, IsCall, IsDeniedCall, Prepares}
+use Rattle.zw_drive.specs.ExecEnds.{CallEnds, IsNamedDenial}
 use Rattle.zw_drive.specs.declared.denial.Denial.{Denial}
 use Rattle.zw_drive.specs.declared.denial.Denial.TheVariants as denial
 use Rattle.zw_drive.specs.declared.exec.ExecErr.{ExecErr}
@@ -16,7 +15,6 @@ use Rattle.zw_exec.specs.Sessions.{IsCallOf, value_of}
 use Rattle.zw_exec.specs.declared.call.SessionCall.{SessionCall}
 use Rattle.zw_report.specs.declared.arg.Arg.{Arg}
 use Rattle.zw_report.specs.declared.arg.Arg.TheVariants as arg
-use Rattle.zw_session.specs.Sessions.{Scalar, Number, Truth}
 use Rattle.zw_wasm.specs.Functions.{func_type}
 use Rattle.zw_wasm.specs.ModuleMachine.{arg_nums, bits_of_scalar, export_in, param_types}
 use Rattle.zw_wasm.specs.declared.module.FuncType.{FuncType}
@@ -26,8 +24,7 @@ use Rattle.zw_wasm.specs.declared.module.ValType.{ValType}
 use Rattle.zw_wasm.specs.declared.module.ValType.TheVariants as ty
 use Rattle.zw_wasm.specs.declared.num.Num.{Num}
 use Rattle.zw_wasm.specs.declared.num.Num.TheVariants as num
-use Rattle.zw_wasm_run.specs.Machines.{IsNew}
-use Rattle.zw_wasm_run.specs.Segments.{first_outside}
+use Rattle.zw_wasm_words.specs.Segments.{first_outside}
 
 -- ---- the numbers of a call
 

@@ -1,5 +1,5 @@
 -- A session that was run had the whole input.
-use Rattle.std.proofs.Common.{◌≡◌, ◌⊎◌, ℕ, List, Option, Some, Result, Ok, Err, refl, sym, ◌∙◌, subst, inl, inr, arith}
+use Rattle.std.proofs.Common.{◌≡◌, ◌⊎◌, ℕ, List, Option, Some, Result, Ok, Err, sym, ◌∙◌, subst, inl, inr, arith}
 use Rattle.std.specs.Io.KnownBytes.{IsAtEnd}
 use Rattle.zw_base.specs.declared.files.Answer.{Answer}
 use Rattle.zw_base.specs.declared.files.Answer.TheVariants as answers
@@ -9,7 +9,7 @@ use Rattle.zw_calls.specs.declared.replies.ReplyErr.{ReplyErr}
 use Rattle.zw_calls.specs.declared.replies.ReplyErr.TheVariants as reply
 use Rattle.zw_drive.specs.Commands.{CommandLine, Exec}
 use Rattle.zw_drive.specs.Denials.{denial_status}
-use Rattle.zw_drive.specs.Due.{Ends, IsCommandDue, IsCutShort, IsWhole, RanSession, Serves}
+use Rattle.zw_drive.specs.Due.{Ends, IsCommandDue, IsWhole, RanSession, Serves}
 use Rattle.zw_drive.specs.Exec.{AreCallsDue, AreRepliesDue, IsExecFileDue, IsRefusedDue, IsRunDue}
 use Rattle.zw_drive.specs.Inputs.{Reading}
 use Rattle.zw_drive.specs.Statuses.{code_of}

@@ -8,12 +8,13 @@ use Rattle.zw_drive.specs.Commands.{Asks, CommandLine, Build, Check}
 use Rattle.zw_drive.specs.Due.{AreFirst, IsDue, IsBeforeLoad, IsBuildDue, IsCheckDue, IsCommandDue, IsFront, IsTreeDue, IsWhole, Ends, Serves, TreeDue}
 use Rattle.zw_drive.specs.Ends.{WritesTree, Reports, Says, code_of}
 use Rattle.zw_drive.specs.Inputs.{Reading}
-use Rattle.zw_drive.specs.Lines.{usage_line, stop_line, tree_fault_line, out_fault_line}
+use Rattle.zw_drive.specs.Lines.{usage_line, tree_fault_line, out_fault_line}
 use Rattle.zw_drive.specs.declared.build.BuildErr.{BuildErr}
 use Rattle.zw_drive.specs.declared.build.BuildErr.TheVariants as build
 use Rattle.zw_drive.specs.declared.status.Status.{Status}
 use Rattle.zw_drive.specs.declared.status.Status.TheVariants as statuses
 use Rattle.zw_files.specs.Gathering.{IsBegun, IsCutOff}
+use Rattle.zw_report.specs.StopLines.{stop_line}
 use Rattle.zw_drive.proofs.BuildLemmas.{Appends-none, Consumes-none}
 
 -- all of the bytes are a front of them

@@ -1,12 +1,12 @@
 -- Denials: why calls of a module's file aren't run, and the line that says so. This project's own.
 use Rattle.std.specs.Prelude.{ℕ, List, ◌++◌, codes}
 use Rattle.std.specs.Fmt.{decimal}
-use Rattle.zw_drive.specs.Lines.{shown}
 use Rattle.zw_drive.specs.Refusals.{refusal_line, status_of}
 use Rattle.zw_drive.specs.declared.denial.Denial.{Denial}
 use Rattle.zw_drive.specs.declared.denial.Denial.TheVariants as denial
 use Rattle.zw_drive.specs.declared.status.Status.{Status}
 use Rattle.zw_drive.specs.declared.status.Status.TheVariants as statuses
+use Rattle.zw_report.specs.Lines.{shown}
 
 -- a file that can't run is invalid; what was asked for, or the input, is a refusal of the usage
 abbrev pub denial_status : Denial → Status

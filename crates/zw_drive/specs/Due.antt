@@ -10,7 +10,7 @@ use Rattle.zw_calls.specs.Requests.{Request}
 use Rattle.zw_drive.specs.Commands.{Asks, AsksExec, CommandLine, Check, Build, Validate, Exec}
 use Rattle.zw_drive.specs.Exec.{IsExecDue, IsReady}
 use Rattle.zw_drive.specs.Inputs.{IsUnread, Reading}
-use Rattle.zw_drive.specs.Lines.{usage_line, tree_fault_line, input_fault_line, out_fault_line, stop_line}
+use Rattle.zw_drive.specs.Lines.{usage_line, tree_fault_line, input_fault_line, out_fault_line}
 use Rattle.zw_drive.specs.Meaning.{Builds}
 use Rattle.zw_drive.specs.Validate.{IsFileAtMost, IsValidateDue}
 use Rattle.zw_exec.specs.Ends.{status_of}
@@ -19,6 +19,7 @@ use Rattle.zw_files.specs.Discovery.{Discovery, Found, Located, root_text}
 use Rattle.zw_files.specs.Gathering.{IsBegun, IsCutOff}
 use Rattle.zw_form.specs.Form.{HasForm, IsStopOf}
 use Rattle.zw_form.specs.Trees.{Tree}
+use Rattle.zw_report.specs.StopLines.{stop_line}
 
 -- a stop in the file at this path is due: status 1, its line, and nothing to the output
 pub record IsStop (path : List ℕ) (stop : Stop) (status : ℕ) (out line : List ℕ) : Type 0 where

@@ -1,13 +1,13 @@
 -- How the parts of a command end: by cases on what each answers.
-use Rattle.std.specs.Prelude.{◌≡◌, ◌⊎◌, ℕ, Bool, true, false, List, [], ◌++◌, ◌≤◌, Result, Ok, Err, Option}
+use Rattle.std.specs.Prelude.{◌≡◌, ◌⊎◌, ℕ, Bool, true, false, List, [], ◌++◌, Result, Ok, Err, Option}
 use Rattle.std.specs.Io.KnownBytes.{Appends}
 use Rattle.zw_base.specs.declared.files.Handed.{Handed}
 use Rattle.zw_base.specs.declared.stop.Refused.{Refused}
 use Rattle.zw_base.specs.declared.stop.Refused.TheVariants as refused
 use Rattle.zw_base.specs.declared.stop.Stop.{Stop}
 pub use Rattle.zw_drive.specs.Statuses.{code_of}
-use Rattle.zw_drive.specs.Due.{IsBuildDue, IsCheckDue, IsFront, IsTreeDue, TreeDue}
-use Rattle.zw_drive.specs.Lines.{IsNamed, stop_line, tree_fault_line, out_fault_line}
+use Rattle.zw_drive.specs.Due.{IsCheckDue, IsFront, IsTreeDue, TreeDue}
+use Rattle.zw_drive.specs.Lines.{tree_fault_line, out_fault_line}
 use Rattle.zw_drive.specs.Meaning.{Means, Builds}
 use Rattle.zw_drive.specs.declared.build.BuildErr.{BuildErr}
 use Rattle.zw_drive.specs.declared.build.BuildErr.TheVariants as build
@@ -18,6 +18,7 @@ use Rattle.zw_files.specs.declared.err.GatherErr.{GatherErr}
 use Rattle.zw_files.specs.declared.err.GatherErr.TheVariants as gather
 use Rattle.zw_form.specs.Form.{HasForm, IsStopOf}
 use Rattle.zw_form.specs.Trees.{Tree}
+use Rattle.zw_report.specs.StopLines.{IsNamed, stop_line}
 use Rattle.zw_wasm.specs.WellFormed.{IsWellFormed}
 use Rattle.zw_wasm.specs.declared.module.Module.{Module}
 

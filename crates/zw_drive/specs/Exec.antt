@@ -27,7 +27,7 @@ use Rattle.zw_wasm.specs.ModuleMachine.{export_in, first_store, param_types}
 use Rattle.zw_wasm.specs.Validity.{IsValid}
 use Rattle.zw_wasm.specs.declared.module.Module.{Module}
 use Rattle.zw_wasm.specs.declared.module.TheConstants.ExportDef.{FUNC}
-use Rattle.zw_wasm_run.specs.Segments.{first_outside}
+use Rattle.zw_wasm_words.specs.Segments.{first_outside}
 
 -- a call of the function of this number, which the module exports under its name, with its arguments by the types of the parameters
 abbrev pub session_call : Module → Call → ℕ → SessionCall

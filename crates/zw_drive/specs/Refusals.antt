@@ -1,11 +1,11 @@
 -- Refusals: why a file is no valid module, and the line that says so. This project's own.
 use Rattle.std.specs.Prelude.{ℕ, nat_eq, List, ◌++◌, codes, if◌then◌else◌}
 use Rattle.std.specs.Fmt.{decimal}
-use Rattle.zw_drive.specs.Lines.{shown}
 use Rattle.zw_drive.specs.declared.refusal.Refusal.{Refusal}
 use Rattle.zw_drive.specs.declared.refusal.Refusal.TheVariants as refusal
 use Rattle.zw_drive.specs.declared.status.Status.{Status}
 use Rattle.zw_drive.specs.declared.status.Status.TheVariants as statuses
+use Rattle.zw_report.specs.Lines.{shown}
 use Rattle.zw_wasm_read.specs.declared.stop.BadCode.{BadCode}
 use Rattle.zw_wasm_read.specs.declared.stop.BadCode.TheVariants as bad
 

@@ -1,13 +1,13 @@
 // Why calls of a module's file aren't run, and the line that says so.
 ghost use Rattle.std.specs.Prelude.{◌≡◌, ◌++◌, IfOk, string_bytes};
 ghost use Rattle.zw_drive.specs.Denials.{denial_line, denial_status, named_line, reply_line, segment_tail};
-ghost use Rattle.zw_drive.specs.Lines.{shown};
+ghost use Rattle.zw_report.specs.Lines.{shown};
 
-use crate::lines::shown;
 use crate::refusal::{Refusal, refusal_line};
 use crate::status::Status;
 use std::alloc::Global;
 use zw_base::{Oom, Word};
+use zw_report::shown;
 
 /// Why calls of a module's file aren't run.
 #[derive(Debug, Drop)]

@@ -9,13 +9,14 @@ ghost use Rattle.zw_drive.specs.Ends.{code_of, Reports, HasNamedStop};
 use crate::build::{BuildErr, build, check};
 use crate::command::{Command, read_command};
 use crate::exec::exec;
-use crate::lines::{OUT_FAULT, TREE_FAULT, USAGE, stop_line};
+use crate::lines::{OUT_FAULT, TREE_FAULT, USAGE};
 use crate::report::report_exec;
 use crate::say::say;
 use crate::status::Status;
 use crate::validate::{report_validated, validate};
 use std::alloc::Global;
 use zw_base::{Sink, Source, Tree, Word};
+use zw_report::stop_line;
 
 /// Does what the words of a command line ask for, and answers the status: 0 where the tree passed or all was written, 1 where the
 /// tree of files has a stop or the module's file is absent or too long, 2 where the words are no command, a called export isn't there,

@@ -2,10 +2,10 @@
 ghost use Rattle.std.specs.Prelude.{◌≡◌, IfOk, string_bytes};
 ghost use Rattle.zw_drive.specs.Refusals.{bad_name, byte_tail, entry_tail, fault_name, instruction_tail, refusal_line, refusal_tail, status_of};
 
-use crate::lines::shown;
 use crate::status::Status;
 use std::alloc::Global;
 use zw_base::{Oom, Word};
+use zw_report::shown;
 use zw_wasm_read::BadCode;
 
 /// Why a file is no valid module.

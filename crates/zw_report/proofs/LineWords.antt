@@ -5,12 +5,14 @@ use Rattle.std.specs.Fmt.{decimal}
 use Rattle.std.specs.List.{AllByRecursion, flat_map, list_all}
 use Rattle.std.proofs.lemmas.Bool.{and_from}
 use Rattle.hex.specs.Hex.{IsBytes}
+use Rattle.zw_base.specs.declared.stop.Stop.{Stop}
 use Rattle.zw_report.specs.declared.arg.Arg.{Arg}
 use Rattle.zw_report.specs.declared.item.ItemTy.{ItemTy}
 use Rattle.zw_report.specs.declared.item.ItemTy.TheVariants.{Int, Bool as Logical, Bytes, Void}
 use Rattle.zw_report.specs.Lines.{argument, argument_text, begin, bytes_text, call_line, cause_name, event_line, is_plain, items, panic_line, result_line, shown, value_text, word}
+use Rattle.zw_report.specs.StopLines.{IsNamed, class_of, name_of, number_of, stop_line}
 use Rattle.zw_report.specs.Words.{IsLine}
-use Rattle.zw_report.proofs.Plain.{plain-argument, plain-bytes, plain-cause, plain-decimal, plain-shown, plain-value}
+use Rattle.zw_report.proofs.Plain.{plain-append, plain-argument, plain-bytes, plain-cause, plain-class, plain-decimal, plain-name, plain-shown, plain-value}
 use Rattle.zw_wasm.specs.declared.num.Num.{Num}
 use Rattle.zw_wasm_run.specs.declared.event.Event.{Event}
 
@@ -75,3 +77,43 @@ panic_is_line cause message low high h =
     (words-cons (cause_name cause) tail (plain-cause cause low high) (message_is_words (nat_eq cause 18) message h)))
     (ap (λ (l : List ℕ). l ++ codes "\n")
     (append_assoc (codes "panic" ++ word (decimal cause)) (word (cause_name cause)) tail ∙ append_assoc (codes "panic") (word (decimal cause)) (word (cause_name cause) ++ tail)))
+
+-- the first word of a stop's line: the path and the place
+abbrev placed : List ℕ → List ℕ → List ℕ → List ℕ
+placed path row column = path ++ (codes ":" ++ (row ++ (codes ":" ++ (column ++ codes ":"))))
+
+plain-placed : (path row column : List ℕ) → is_plain path ≡ true → is_plain row ≡ true → is_plain column ≡ true → is_plain (placed path row column) ≡ true
+plain-placed path row column p r c =
+    plain-append path (codes ":" ++ (row ++ (codes ":" ++ (column ++ codes ":")))) p
+    (plain-append (codes ":") (row ++ (codes ":" ++ (column ++ codes ":"))) refl
+    (plain-append row (codes ":" ++ (column ++ codes ":")) r
+    (plain-append (codes ":") (column ++ codes ":") refl (plain-append column (codes ":") c refl))))
+
+placed-then : (path row column rest : List ℕ) → placed path row column ++ rest ≡ path ++ (codes ":" ++ (row ++ (codes ":" ++ (column ++ (codes ":" ++ rest)))))
+placed-then path row column rest = simp append_assoc
+
+words-then : (class number name rest : List ℕ) → (word class ++ (word number ++ word name)) ++ rest ≡ word class ++ (word number ++ (word name ++ rest))
+words-then class number name rest =
+    append_assoc (word class) (word number ++ word name) rest ∙ ap (λ (l : List ℕ). word class ++ l) (append_assoc (word number) (word name) rest)
+
+regrouped : (path row column class number name : List ℕ)
+    → path ++ (codes ":" ++ (row ++ (codes ":" ++ (column ++ (codes ": " ++ (class ++ (codes " " ++ (number ++ (codes " " ++ (name ++ codes "\n"))))))))))
+    ≡ placed path row column ++ (word class ++ (word number ++ word name)) ++ codes "\n"
+regrouped path row column class number name =
+    let words = word class ++ (word number ++ word name) in
+    sym
+    (append_assoc (placed path row column) words (codes "\n")
+    ∙ (placed-then path row column (words ++ codes "\n")
+    ∙ ap (λ (l : List ℕ). path ++ (codes ":" ++ (row ++ (codes ":" ++ (column ++ (codes ":" ++ l)))))) (words-then class number name (codes "\n"))))
+
+pub stop_is_line : (path : List ℕ) (stop : Stop) → IsBytes path → IsNamed stop.kind → IsLine (stop_line path stop)
+stop_is_line path stop h named =
+    let row = decimal stop.place.line in
+    let column = decimal stop.place.column in
+    let number = decimal (number_of stop.kind) in
+    let name = name_of stop.kind in
+    line (placed (shown path) row column) (word (class_of stop.kind) ++ (word number ++ word name)) (stop_line path stop)
+    (plain-placed (shown path) row column (plain-shown path h) (plain-decimal stop.place.line) (plain-decimal stop.place.column))
+    (words-cons (class_of stop.kind) (word number ++ word name) (plain-class stop.kind)
+    (words-cons number (word name) (plain-decimal (number_of stop.kind)) (one_word name (plain-name stop.kind named))))
+    (regrouped (shown path) row column (class_of stop.kind) number name)

@@ -6,12 +6,16 @@ use Rattle.std.proofs.lemmas.Bool.{and_from, le-leb}
 use Rattle.std.proofs.lemmas.List.Folds.{list_all-append}
 use Rattle.std.proofs.lemmas.List.Sums.{AllPass-from_list_all}
 use Rattle.hex.specs.Hex.{IsBytes, encode_lower, encode_with, lower_digits}
+use Rattle.zw_base.specs.declared.stop.StopKind.{StopKind}
+use Rattle.zw_base.specs.declared.stop.StopKind.TheVariants.{Error, Limit}
 use Rattle.zw_report.specs.declared.arg.Arg.{Arg}
 use Rattle.zw_report.specs.declared.arg.Arg.TheVariants.{Number, Truth}
 use Rattle.zw_report.specs.declared.item.ItemTy.{ItemTy}
 use Rattle.zw_report.specs.declared.item.ItemTy.TheVariants.{Int, Bool as Logical, Bytes, Void}
 use Rattle.zw_report.specs.declared.panics.TheConstants.{CAUSE_NAMES}
+use Rattle.zw_report.specs.declared.stops.TheConstants.{ERROR_NAMES, LIMIT_NAMES}
 use Rattle.zw_report.specs.Lines.{argument_text, bytes_text, cause_name, is_plain, number_text, shown, truth_text, value_text}
+use Rattle.zw_report.specs.StopLines.{IsNamed, class_of, name_of}
 use Rattle.zw_wasm.specs.Signature.{signed_value}
 use Rattle.zw_wasm.specs.Structure.{bits_of}
 use Rattle.zw_wasm.specs.declared.num.Num.{Num}
@@ -25,7 +29,7 @@ byte_is_plain byte low high = and_from _ _ (le-leb 33 byte low) (le-leb byte 126
 plain-cons : (byte : ℕ) (text : List ℕ) → plain_byte byte ≡ true → is_plain text ≡ true → is_plain (byte ∷ text) ≡ true
 plain-cons byte text b t = and_from _ _ b t
 
-plain-append : (a b : List ℕ) → is_plain a ≡ true → is_plain b ≡ true → is_plain (a ++ b) ≡ true
+pub plain-append : (a b : List ℕ) → is_plain a ≡ true → is_plain b ≡ true → is_plain (a ++ b) ≡ true
 plain-append a b p q = list_all-append plain_byte a b ∙ and_from _ _ p q
 
 digit_is_plain : (d : ℕ) → d < 16 → plain_byte (slice_index lower_digits d) ≡ true
@@ -97,3 +101,11 @@ plain-value Void n = refl
 
 pub plain-cause : (cause : ℕ) → 1 ≤ cause → cause ≤ 19 → is_plain (cause_name cause) ≡ true
 plain-cause cause low high = AllPass-from_list_all is_plain (map (λ name. name.now) CAUSE_NAMES) refl (cause - 1) [] (omega arith)
+
+pub plain-class : (kind : StopKind) → is_plain (class_of kind) ≡ true
+plain-class (Error number) = refl
+plain-class (Limit number) = refl
+
+pub plain-name : (kind : StopKind) → IsNamed kind → is_plain (name_of kind) ≡ true
+plain-name (Error number) named = AllPass-from_list_all is_plain (map (λ name. name.now) ERROR_NAMES) refl (number - 1) [] (omega arith)
+plain-name (Limit number) named = AllPass-from_list_all is_plain (map (λ name. name.now) LIMIT_NAMES) refl (number - 1) [] (omega arith)

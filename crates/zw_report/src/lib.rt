@@ -1,5 +1,5 @@
-//! The lines that tell of a session: its calls, its host calls and its end. The crate knows nothing of how a session runs, nor
-//! of words of a command.
+//! The lines that tell of a session, its calls, its host calls and its end, and the line that tells of a stop. The crate knows
+//! nothing of how a session runs, nor of words of a command.
 #![tactic(auto)]
 
 mod arg;
@@ -9,11 +9,15 @@ mod laws;
 mod lines;
 mod names;
 mod panics;
+mod stops;
 
 pub use arg::Arg;
 pub use end::End;
 pub use item::ItemTy;
 pub use laws::{
     ends_are_worked, lines_are_words, lines_are_worked, one_reading, panics_are_worked,
+    stops_are_worked,
 };
 pub use lines::{call_line, end_line, event_line};
+pub use names::shown;
+pub use stops::stop_line;

@@ -1,6 +1,6 @@
 // Names, and bytes in hexadecimal.
-ghost use Rattle.std.specs.Prelude.{◌≡◌, IfOk};
-ghost use Rattle.zw_report.specs.Lines.{bytes_text, is_plain, shown};
+ghost use Rattle.std.specs.Prelude.{◌≡◌, ◌≤◌, IfOk, length};
+ghost use Rattle.zw_report.specs.Lines.{bytes_text, is_plain, name_at, shown};
 
 use std::alloc::Global;
 use zw_base::Oom;
@@ -29,4 +29,13 @@ fn is_plain(name: &[u8]) -> bool
     ensures { result ≡ is_plain name.now }
 {
     name.iter().all(|byte| 0x21 <= *byte && *byte <= 0x7e)
+}
+
+/// The name of this number in a table, from number 1 on.
+pub fn name_at(table: &[&'static str], number: u16) -> &'static str
+    requires positive { 1 ≤ number }
+    requires within { number ≤ length table.now }
+    ensures { result.now ≡ name_at table.now number }
+{
+    table[number as usize - 1]
 }

@@ -1,6 +1,8 @@
 // The causes of panics by name.
-ghost use Rattle.std.specs.Prelude.{◌≡◌, ◌≤◌, length};
-ghost use Rattle.zw_report.specs.Lines.{cause_name, name_at};
+ghost use Rattle.std.specs.Prelude.{◌≡◌, ◌≤◌};
+ghost use Rattle.zw_report.specs.Lines.{cause_name};
+
+use crate::names::name_at;
 
 /// The cause whose line has a message.
 pub const MESSAGE: u8 = 18;
@@ -34,14 +36,5 @@ pub fn cause_name(cause: u8) -> &'static str
     requires within { cause ≤ 19 }
     ensures { result.now ≡ cause_name cause }
 {
-    name_at(&CAUSE_NAMES, cause)
-}
-
-/// The name of this number, from 1 on.
-fn name_at(table: &[&'static str], number: u8) -> &'static str
-    requires positive { 1 ≤ number }
-    requires within { number ≤ length table.now }
-    ensures { result.now ≡ name_at table.now number }
-{
-    table[number as usize - 1]
+    name_at(&CAUSE_NAMES, u16::from(cause))
 }

@@ -10,16 +10,16 @@ use Rattle.zw_wasm.specs.declared.module.Module.{Module}
 use Rattle.zw_wasm.specs.declared.num.Num.{Num}
 use Rattle.zw_wasm.specs.Functions.{func_type}
 use Rattle.zw_wasm.specs.Reduction as reduction
-use Rattle.zw_wasm.specs.Reduction.{Action, CallsHost, Config, Goes, Traps, arity_of, called, enter, entered, frames_trap, max_frames, no_rule, with_operands}
+use Rattle.zw_wasm.specs.Reduction.{Action, CallsHost, Config, Traps, arity_of, called, enter, entered, frames_trap, max_frames, no_rule, with_operands}
 use Rattle.zw_wasm.specs.Structure.{code_of, zeros}
-use Rattle.zw_wasm_run.specs.declared.frame.Frame.{Frame}
-use Rattle.zw_wasm_run.specs.declared.frame.Label.{Label}
-use Rattle.zw_wasm_run.specs.Frames.{LabelsStand, numbers_of, under}
-use Rattle.zw_wasm_run.specs.Operands.{IsRuled}
+use Rattle.zw_wasm_words.specs.declared.frame.Frame.{Frame}
+use Rattle.zw_wasm_words.specs.declared.frame.Label.{Label}
+use Rattle.zw_wasm_words.specs.Frames.{LabelsStand, numbers_of, under}
+use Rattle.zw_wasm_words.specs.Operands.{IsRuled}
+use Rattle.zw_wasm_words.specs.Words.{Hold, zero_words}
+use Rattle.zw_wasm_words.proofs.Holding.{hold_length}
 use Rattle.zw_wasm_run.specs.Running.{AllStand, FramesStand, GoesTo, body_of, instrs_in}
-use Rattle.zw_wasm_run.specs.Words.{Hold, zero_words}
 use Rattle.zw_wasm_run.proofs.EnterWords.{enters, zeros_held}
-use Rattle.zw_wasm_run.proofs.Holding.{hold_length}
 use Rattle.zw_wasm_run.proofs.LabelRuns.{words_count}
 use Rattle.zw_wasm_run.proofs.AllFrames.{own_none}
 

@@ -10,13 +10,13 @@ use Rattle.zw_wasm.specs.declared.num.Num.{Num}
 use Rattle.zw_wasm.specs.Reduction as reduction
 use Rattle.zw_wasm.specs.Reduction.{Config, Goes, Over, Returns, Traps, at_work, branched, branched_to, fetched, no_rule, returned, stands_in, stands_next}
 use Rattle.zw_wasm.specs.Structure.{Ends}
-use Rattle.zw_wasm_run.specs.declared.frame.Frame.{Frame}
-use Rattle.zw_wasm_run.specs.declared.frame.Label.{Label}
-use Rattle.zw_wasm_run.specs.Frames.{BranchesOn, KeepsResults, LabelsStand, ReturnsOn, Stands, numbers_of, under}
-use Rattle.zw_wasm_run.specs.Operands.{IsRuled}
+use Rattle.zw_wasm_words.specs.declared.frame.Frame.{Frame}
+use Rattle.zw_wasm_words.specs.declared.frame.Label.{Label}
+use Rattle.zw_wasm_words.specs.Frames.{BranchesOn, KeepsResults, LabelsStand, ReturnsOn, Stands, numbers_of, under}
+use Rattle.zw_wasm_words.specs.Operands.{IsRuled}
+use Rattle.zw_wasm_words.specs.Words.{Hold}
+use Rattle.zw_wasm_words.proofs.BranchWords.{label_at}
 use Rattle.zw_wasm_run.specs.Running.{AllStand, CallEnds, FramesStand, SameNext, GoesTo, body_of, own_labels}
-use Rattle.zw_wasm_run.specs.Words.{Hold}
-use Rattle.zw_wasm_run.proofs.BranchWords.{label_at}
 use Rattle.zw_wasm_run.proofs.FlatCode.{code_of-nothing}
 use Rattle.zw_wasm_run.proofs.LabelRuns.{leaves}
 

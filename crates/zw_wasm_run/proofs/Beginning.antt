@@ -7,11 +7,11 @@ use Rattle.zw_wasm.specs.declared.module.Module.{Module}
 use Rattle.zw_wasm.specs.ModuleMachine.{first_sizes, first_store, first_values}
 use Rattle.zw_wasm.specs.Reduction.{Store}
 use Rattle.zw_wasm.specs.declared.num.Num.{Num}
+use Rattle.zw_wasm_words.specs.Segments.{datas_inside, element_fits, elements_inside, first_false}
 use Rattle.zw_wasm_run.specs.declared.machine.NewErr.{NewErr}
 use Rattle.zw_wasm_run.specs.declared.machine.NewErr.TheVariants as error
 use Rattle.zw_wasm_run.specs.declared.machine.Show.{Show}
 use Rattle.zw_wasm_run.specs.Machines.{Begins, IsOutOfRange, Remembers, Tabled}
-use Rattle.zw_wasm_run.specs.Segments.{datas_inside, element_fits, elements_inside, first_false}
 
 one_more : (k : ℕ) (o : Option ℕ) → option_map (λ n. suc n) (option_map (λ n. k + n) o) ≡ option_map (λ n. suc k + n) o
 one_more k None = refl

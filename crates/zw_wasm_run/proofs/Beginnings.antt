@@ -2,14 +2,14 @@
 use Rattle.std.proofs.Common.{◌≡◌, ◌+◌, true, reverse, refl, sym, ap, subst, ◌∙◌}
 use Rattle.zw_wasm.specs.declared.module.Instr.{Instr}
 use Rattle.zw_wasm.specs.declared.module.Module.{Module}
-use Rattle.zw_wasm.specs.Reduction.{Single, done, stands_next}
+use Rattle.zw_wasm.specs.Reduction.{Config, Does, Single, done, stands_in, stands_next}
 use Rattle.zw_wasm.specs.Structure.{is_plain}
-use Rattle.zw_wasm_run.specs.declared.effect.Effect.{Effect}
-use Rattle.zw_wasm_run.specs.declared.effect.Taken.{Taken}
+use Rattle.zw_wasm_words.specs.declared.effect.Effect.{Effect}
+use Rattle.zw_wasm_words.specs.Frames.{numbers_of}
+use Rattle.zw_wasm_run.specs.declared.pause.Taken.{Taken}
 use Rattle.zw_wasm_run.specs.declared.stacks.Stacks.{Stacks}
 use Rattle.zw_wasm_run.specs.declared.store.Store.{Store}
-use Rattle.zw_wasm_run.specs.Frames.{numbers_of}
-use Rattle.zw_wasm_run.specs.Running.{AllStand, TakesStep, at_doing, body_of, own_labels}
+use Rattle.zw_wasm_run.specs.Running.{AllStand, StacksStand, TakesStep, at_doing, body_of, own_labels}
 use Rattle.zw_wasm_run.specs.Settling.{IsAt}
 use Rattle.zw_wasm_run.specs.Stores.{EndsWith, Executes, Steps, taken_of}
 use Rattle.zw_wasm_run.proofs.AllFrames.{stays}
@@ -32,20 +32,29 @@ steps_so m store old e t new is takes = record {
       };
 }
 
+-- a plain instruction stands next, and other stacks stand for the configuration behind it
+pub record StandsBehind (m : Module) (i : Instr) (mid : Stacks) (c d : Config) : Type 0 where
+  pub stands : stands_in c.frame ≡ Does (Single i) d.frame
+  pub stand : StacksStand m mid d
+
+pub stands_behind : (m : Module) (i : Instr) (old mid : Stacks) (c : Config) → IsAt m old i → is_plain i ≡ true → mid.frame ≡ record old.frame { at = old.frame.at + 1 } → mid.frames.items ≡ old.frames.items → mid.labels.items ≡ old.labels.items → mid.words.items ≡ old.words.items → StacksStand m old c → StandsBehind m i mid c (behind (body_of m old.frame.body) old.frame.at c)
+stands_behind m i old mid c at plain frame frames labels words stands =
+    let k = old.frame in
+    let is = body_of m k.body in
+    let d = behind is k.at c in
+    let ks = reverse old.frames.items in
+    let all : AllStand m (record k { at = k.at + 1 }) ks old.labels.items old.words.items d =
+    stays m k ks old.labels.items old.words.items old.words.items (k.at + 1) c d stands refl (moved is k (own_labels k.labels old.labels.items) old.words.items (k.at + 1) c (numbers_of c.below) stands.running) in
+    record {
+      stands = ap (λ code. stands_next c.frame code c.frame.operands c.frame.labels) (stands.running.frame.code ∙ code_of-plain is k.at i (here_at k.at is i at.here) plain);
+      stand = stand_as m mid (record k { at = k.at + 1 }) ks old.labels.items old.words.items d frame (ap reverse frames) labels words all;
+    }
+
 -- a plain instruction, on the stacks behind it
 pub single_steps : (m : Module) (i : Instr) (store last : Store) (old mid : Stacks) (t : Taken) (new : Stacks) → IsAt m old i → is_plain i ≡ true → mid.frame ≡ record old.frame { at = old.frame.at + 1 } → mid.frames.items ≡ old.frames.items → mid.labels.items ≡ old.labels.items → mid.words.items ≡ old.words.items → Executes m i store mid t last new → Steps m store old t last new
 single_steps m i store last old mid t new at plain frame frames labels words executes = record {
   by = λ c stands same.
-      let k = old.frame in
-      let is = body_of m k.body in
-      let d = behind is k.at c in
-      let ks = reverse old.frames.items in
-      let all : AllStand m (record k { at = k.at + 1 }) ks old.labels.items old.words.items d =
-      stays m k ks old.labels.items old.words.items old.words.items (k.at + 1) c d stands refl (moved is k (own_labels k.labels old.labels.items) old.words.items (k.at + 1) c (numbers_of c.below) stands.running) in
-      record {
-        work = Single i;
-        frame = d.frame;
-        stands = ap (λ code. stands_next c.frame code c.frame.operands c.frame.labels) (stands.running.frame.code ∙ code_of-plain is k.at i (here_at k.at is i at.here) plain);
-        does = λ sound. executes.by d (stand_as m mid (record k { at = k.at + 1 }) ks old.labels.items old.words.items d frame (ap reverse frames) labels words all) same sound;
-      };
+      let d = behind (body_of m old.frame.body) old.frame.at c in
+      let b = stands_behind m i old mid c at plain frame frames labels words stands in
+      record { work = Single i; frame = d.frame; stands = b.stands; does = λ sound. executes.by d b.stand same sound };
 }

@@ -8,13 +8,13 @@ use Rattle.zw_wasm.specs.declared.module.FuncType.{FuncType}
 use Rattle.zw_wasm.specs.declared.module.Module.{Module}
 use Rattle.zw_wasm.specs.Functions.{func_type}
 use Rattle.zw_wasm.specs.Reduction.{Action, Config, arity_of, called, with_operands}
-use Rattle.zw_wasm_run.specs.declared.effect.Effect.{Effect}
-use Rattle.zw_wasm_run.specs.declared.effect.Effect.TheVariants as effect
+use Rattle.zw_wasm_words.specs.declared.effect.Effect.{Effect}
+use Rattle.zw_wasm_words.specs.declared.effect.Effect.TheVariants as effect
+use Rattle.zw_wasm_words.specs.Frames.{ActsInFrame, numbers_of, under, with_values}
+use Rattle.zw_wasm_words.specs.Operands.{ActsOnWords}
+use Rattle.zw_wasm_words.specs.Words.{zero_words}
 use Rattle.zw_wasm_run.specs.declared.stacks.Stacks.{Stacks}
-use Rattle.zw_wasm_run.specs.Frames.{ActsInFrame, numbers_of, under, with_values}
-use Rattle.zw_wasm_run.specs.Operands.{ActsOnWords}
 use Rattle.zw_wasm_run.specs.Running.{ActsOnStacks, body_of, own_labels}
-use Rattle.zw_wasm_run.specs.Words.{zero_words}
 use Rattle.zw_wasm_run.proofs.AllCalls.{call_goes, call_overflows, frame_for, no_body, no_function, takes_arguments}
 use Rattle.zw_wasm_run.proofs.LabelRuns.{words_count}
 use Rattle.zw_wasm_run.proofs.Stacked.{goes_as}

@@ -6,11 +6,11 @@ use Rattle.zw_wasm.specs.declared.module.Instr.{Instr}
 use Rattle.zw_wasm.specs.declared.module.Module.{Module}
 use Rattle.zw_wasm.specs.Reduction.{Config}
 use Rattle.zw_wasm.specs.Structure.{Ends, code_of}
+use Rattle.zw_wasm_words.specs.Frames.{LocalsFit, numbers_of, under}
+use Rattle.zw_wasm_words.proofs.Holding.{under_long}
 use Rattle.zw_wasm_run.specs.declared.stacks.Stacks.{Stacks}
-use Rattle.zw_wasm_run.specs.Frames.{LocalsFit, numbers_of, under}
 use Rattle.zw_wasm_run.specs.Running.{EndsFrame, EndsLabel, StacksStand, StandsLike, body_of}
 use Rattle.zw_wasm_run.specs.Settling.{IsAtEnd, IsReached, IsStanding, closes}
-use Rattle.zw_wasm_run.proofs.Holding.{under_long}
 use Rattle.zw_wasm_run.proofs.LabelRuns.{words_count}
 use Rattle.zw_wasm_run.proofs.Runs.{same_after}
 

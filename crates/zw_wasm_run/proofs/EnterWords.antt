@@ -5,8 +5,8 @@ use Rattle.zw_wasm.specs.declared.module.ValType.{ValType}
 use Rattle.zw_wasm.specs.declared.module.ValType.TheVariants as ty
 use Rattle.zw_wasm.specs.declared.num.Num.{Num}
 use Rattle.zw_wasm.specs.Structure.{num_of, zeros}
-use Rattle.zw_wasm_run.specs.Words.{Hold, zero_words}
-use Rattle.zw_wasm_run.proofs.Holding.{hold_append, hold_reverse}
+use Rattle.zw_wasm_words.specs.Words.{Hold, zero_words}
+use Rattle.zw_wasm_words.proofs.Holding.{hold_append, hold_reverse}
 
 hold_zeros : (t : ValType) (n : ℕ) → Hold (replicate n 0) (replicate n (num_of t 0))
 hold_zeros t zero = tt

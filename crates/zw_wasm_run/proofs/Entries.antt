@@ -11,13 +11,13 @@ use Rattle.zw_wasm.specs.Functions.{func_type}
 use Rattle.zw_wasm.specs.ModuleMachine.{idle}
 use Rattle.zw_wasm.specs.Reduction.{World, arity_of, entered}
 use Rattle.zw_wasm.specs.Structure.{code_of, zeros}
+use Rattle.zw_wasm_words.specs.Words.{Hold, Holds, zero_words}
+use Rattle.zw_wasm_words.proofs.Holding.{hold_append, hold_length, hold_reverse}
 use Rattle.zw_wasm_run.specs.declared.stacks.Stacks.{Stacks}
 use Rattle.zw_wasm_run.specs.Invocation.{BeginsCall}
 use Rattle.zw_wasm_run.specs.Running.{AllStand, instrs_in}
-use Rattle.zw_wasm_run.specs.Words.{Hold, Holds, zero_words}
 use Rattle.zw_wasm_run.proofs.AllCalls.{enter_goes, entering, frame_for}
 use Rattle.zw_wasm_run.proofs.EnterWords.{zeros_held}
-use Rattle.zw_wasm_run.proofs.Holding.{hold_append, hold_length, hold_reverse}
 use Rattle.zw_wasm_run.proofs.HostCalls.{stands_as}
 use Rattle.zw_wasm_run.proofs.ShownParts.{append_none}
 

@@ -14,7 +14,7 @@ use Rattle.zw_wasm.specs.declared.module.ValType.TheVariants as ty
 use Rattle.zw_wasm.specs.declared.num.Num.{Num}
 use Rattle.zw_wasm.specs.Functions.{func_type}
 use Rattle.zw_wasm.specs.ModuleMachine.{begun, idle, param_types, run_function}
-use Rattle.zw_wasm.specs.Reduction.{CallsHost, Config, Ended, Finished, Over, Run, Step, World, field_of, resolved, run, with_world}
+use Rattle.zw_wasm.specs.Reduction.{CallsHost, Ended, Finished, Over, Run, Step, World, field_of, resolved, run, with_world}
 use Rattle.zw_wasm.specs.Signature.{View}
 use Rattle.zw_wasm.specs.Structure.{number}
 use Rattle.zw_wasm.specs.Validity.{IsValid}
@@ -24,6 +24,8 @@ use Rattle.zw_wasm_sound.proofs.Entering.{func-inside}
 use Rattle.zw_wasm_sound.proofs.Exports.{export-typed, function-typed}
 use Rattle.zw_wasm_sound.proofs.Sound.{enter-typed}
 use Rattle.zw_wasm_sound.proofs.Valid.{bodies-of}
+use Rattle.zw_wasm_words.specs.Words.{Hold}
+use Rattle.zw_wasm_words.proofs.Holding.{hold_length}
 use Rattle.zw_wasm_run.specs.declared.ask.Answer.{Answer}
 use Rattle.zw_wasm_run.specs.declared.ask.Answer.TheVariants as answer
 use Rattle.zw_wasm_run.specs.declared.event.Event.{Event}
@@ -36,16 +38,14 @@ use Rattle.zw_wasm_run.specs.declared.stacks.Stacks.{Stacks}
 use Rattle.zw_wasm_run.specs.declared.store.Store.{Store}
 use Rattle.zw_wasm_run.specs.Calls.{ShowsTo, run_to, seen}
 use Rattle.zw_wasm_run.specs.Hosting.{AnswersSo, AsksHost, HasReply, HostState, answered, numbers_held, world_in}
-use Rattle.zw_wasm_run.specs.Invocation.{BeginsCall, Called, IsReady, Live, MayCall, RunEnds, RunsSo, number_in, outcome_of, world_now}
+use Rattle.zw_wasm_run.specs.Invocation.{BeginsCall, Called, IsAt, IsReady, Live, MayCall, RunEnds, RunsSo, number_in, outcome_of, world_now}
 use Rattle.zw_wasm_run.specs.Shows.{AreShows, IsExported}
 use Rattle.zw_wasm_run.specs.Naming.{named, named_from}
 use Rattle.zw_wasm_run.specs.Premises.{type_of}
 use Rattle.zw_wasm_run.specs.Running.{next_of}
 use Rattle.zw_wasm_run.specs.Stores.{stored}
-use Rattle.zw_wasm_run.specs.Words.{Hold}
 use Rattle.zw_wasm_run.proofs.AllCalls.{enter_is_host}
-use Rattle.zw_wasm_run.proofs.Holding.{hold_length}
-use Rattle.zw_wasm_run.proofs.Invoking.{some_host}
+use Rattle.zw_wasm_run.proofs.Invoking.{answered_world, some_host}
 use Rattle.zw_wasm_run.proofs.Naming.{same_enter}
 use Rattle.zw_wasm_run.proofs.Runs.{run_is_over}
 use Rattle.zw_wasm_run.proofs.ShownParts.{numbers_are}
@@ -86,24 +86,27 @@ typed_export m func valid out none =
     let some : None ≡ Some t.0 = sym none ∙ t.1 in
     cc
 
-pub ready : (m : Module) (shows : List Show) (func : ℕ) (given : List Num) (now : Live) (held : Stacks) → Callable m shows func given now → BeginsCall m func given held → IsReady m shows (record now { stacks = held })
-ready m shows func given now held may begins =
+-- the first configuration, in the world of this host
+pub first_at : (m : Module) (shows : List Show) (func : ℕ) (given : List Num) (now : Live) (held : Stacks) (may : Callable m shows func given now) (begins : BeginsCall m func given held) (names : ℕ → List ℕ) (v : View) (first : ℕ) → IsAt m (reverse (option_to_list may.ty.result)) names v first (record now { stacks = held }) (begins.by (world_in names m v (stored now.store) first now.host)).first
+first_at m shows func given now held may begins names v first =
     let rs = option_to_list may.ty.result in
+    let w = world_in names m v (stored now.store) first now.host in
+    let f = begins.by w in
+    let typed : IsTypedConfig m rs f.first = subst (IsTypedAction m rs) f.goes (enter-typed m (bodies-of m may.valid) func may.ty given w may.is may.given_typed may.stored_typed) in
     record {
-      types = reverse rs;
-      at = λ names v first to inside.
-          let w = world_in names m v (stored now.store) first now.host in
-          let f = begins.by w in
-          let typed : IsTypedConfig m rs f.first = subst (IsTypedAction m rs) f.goes (enter-typed m (bodies-of m may.valid) func may.ty given w may.is may.given_typed may.stored_typed) in
-          record {
-            config = f.first;
-            is = record {
-              stand = record { stacks = f.stand; store = ap (λ (x : World). x.store) f.world };
-              sound = are_sound m (bodies-of m may.valid) rs now.steps f.first typed;
-              world = f.world;
-            };
-          };
+      stand = record { stacks = f.stand; store = ap (λ (x : World). x.store) f.world };
+      sound = are_sound m (bodies-of m may.valid) rs now.steps f.first typed;
+      world = f.world;
     }
+
+pub ready : (m : Module) (shows : List Show) (func : ℕ) (given : List Num) (now : Live) (held : Stacks) → Callable m shows func given now → BeginsCall m func given held → IsReady m shows (record now { stacks = held })
+ready m shows func given now held may begins = record {
+  types = reverse (option_to_list may.ty.result);
+  at = λ names v first to inside. record {
+    config = (begins.by (world_in names m v (stored now.store) first now.host)).first;
+    is = first_at m shows func given now held may begins names v first;
+  };
+}
 
 -- ---- how it ends
 
@@ -149,7 +152,7 @@ runs_from m func given names v w steps held begins =
     ap (λ a. begun (resolved n v w a) w n v steps) (same_enter names m func given (idle w) ∙ (begins.by w).goes)
 
 -- the world with what was logged of this call
-log_before : (names : ℕ → List ℕ) (m : Module) (v : View) (store : Store) (h : HostState) → world_in names m v (stored store) (length h.log) h ≡ record { store = stored store; replies = h.replies; events = [] }
+pub log_before : (names : ℕ → List ℕ) (m : Module) (v : View) (store : Store) (h : HostState) → world_in names m v (stored store) (length h.log) h ≡ record { store = stored store; replies = h.replies; events = [] }
 log_before names m v store h = ap (λ l. record { store = stored store; replies = h.replies; events = map (seen (named names m) v) l }) (drop-length h.log)
 
 log_after : (names : ℕ → List ℕ) (m : Module) (v : View) (store : Store) (old new : HostState) (events : List Event) → new.log ≡ old.log ++ events → world_in names m v (stored store) (length old.log) new ≡ record { store = stored store; replies = new.replies; events = map (seen (named names m) v) events }
@@ -162,11 +165,8 @@ run_ends m shows func given old held e new may begins runs names v to =
     let rs = option_to_list may.ty.result in
     let first = length old.host.log in
     let w = world_in names m v (stored old.store) first old.host in
-    let f = begins.by w in
-    let typed : IsTypedConfig m rs f.first = subst (IsTypedAction m rs) f.goes (enter-typed m (bodies-of m may.valid) func may.ty given w may.is may.given_typed may.stored_typed) in
     subst (λ r. RunEnds (reverse rs) r e new (world_now names m v first new)) (sym (runs_from m func given names v w old.steps held begins))
-    (runs.by (reverse rs) names v first f.first to (omega arith)
-    (record { stand = record { stacks = f.stand; store = ap (λ (x : World). x.store) f.world }; sound = are_sound m (bodies-of m may.valid) rs old.steps f.first typed; world = f.world }))
+    (runs.by (reverse rs) names v first (begins.by w).first to (omega arith) (first_at m shows func given old held may begins names v first))
 
 pub body_called : (m : Module) (shows : List Show) (func : ℕ) (given : List Num) (t : FuncType) (old : Live) (held : Stacks) (e : RunEnd) (new : Live) → Callable m shows func given old → func_type m func ≡ Some t → BeginsCall m func given held → RunsSo m shows (record old { stacks = held }) e new → Called m shows func given old (outcome_of t.result e new.stacks.words.items) new
 body_called m shows func given t old held e new may is begins runs =
@@ -203,11 +203,6 @@ answer_is_over None (Some r) w has = absurd has
 answer_is_over (Some t) None w has = absurd has
 answer_is_over (Some ty.I32) (Some r) w has = refl
 answer_is_over (Some ty.I64) (Some r) w has = ap (λ n. Over (n ∷ [])) (ap (λ k. number ty.I64 k) (mod-eq_of_lt has))
-
-answered_world : (t : Option ValType) (reply : Option ℕ) (c : Config) → (answered t reply c).world ≡ c.world
-answered_world None reply c = refl
-answered_world (Some t) None c = refl
-answered_world (Some t) (Some r) c = refl
 
 -- what an answer makes of a call
 abbrev pub answer_outcome : Option ValType → Answer → Outcome

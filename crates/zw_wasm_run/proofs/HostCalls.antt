@@ -13,24 +13,24 @@ use Rattle.zw_wasm.specs.Functions.{func_type}
 use Rattle.zw_wasm.specs.ModuleMachine.{param_types}
 use Rattle.zw_wasm.specs.Reduction.{CallsHost, Config, Step, World, called, pushed, resolved, result_of, with_operands, with_world}
 use Rattle.zw_wasm.specs.Structure.{num_of}
+use Rattle.zw_wasm_words.specs.declared.frame.Frame.{Frame}
+use Rattle.zw_wasm_words.specs.declared.frame.Label.{Label}
+use Rattle.zw_wasm_words.specs.Frames.{numbers_of, under}
+use Rattle.zw_wasm_words.specs.Operands.{IsRuled}
+use Rattle.zw_wasm_words.specs.Words.{Hold, Holds}
+use Rattle.zw_wasm_words.proofs.Holding.{hold_drop, hold_reverse, hold_take}
 use Rattle.zw_wasm_run.specs.declared.ask.Answer.{Answer}
 use Rattle.zw_wasm_run.specs.declared.ask.Answer.TheVariants as answer
-use Rattle.zw_wasm_run.specs.declared.frame.Frame.{Frame}
-use Rattle.zw_wasm_run.specs.declared.frame.Label.{Label}
 use Rattle.zw_wasm_run.specs.declared.host.Hosted.{Hosted}
 use Rattle.zw_wasm_run.specs.declared.host.Hosted.TheVariants as hosted
 use Rattle.zw_wasm_run.specs.declared.machine.Show.{Show}
 use Rattle.zw_wasm_run.specs.declared.stacks.Stacks.{Stacks}
-use Rattle.zw_wasm_run.specs.Frames.{numbers_of, under}
 use Rattle.zw_wasm_run.specs.Hosting.{AnswersSo, ArgsFit, AsksHost, CallsHostOn, GoesOnWith, HasReply, HostEnds, HostState, answered, numbers_held, world_in}
 use Rattle.zw_wasm_run.specs.Naming.{named}
-use Rattle.zw_wasm_run.specs.Operands.{IsRuled}
 use Rattle.zw_wasm_run.specs.Running.{AllStand, StacksStand}
 use Rattle.zw_wasm_run.specs.Premises.{type_of}
-use Rattle.zw_wasm_run.specs.Words.{Hold, Holds}
 use Rattle.zw_wasm_run.proofs.Asking.{kept}
 use Rattle.zw_wasm_run.proofs.AllCalls.{enter_is_host, no_function, takes_arguments}
-use Rattle.zw_wasm_run.proofs.Holding.{hold_drop, hold_reverse, hold_take}
 use Rattle.zw_wasm_run.proofs.LabelRuns.{words_count}
 use Rattle.zw_wasm_run.proofs.Naming.{same_called}
 use Rattle.zw_wasm_run.proofs.ShownParts.{append_none, numbers_are}

@@ -11,7 +11,8 @@ use Rattle.zw_wasm.specs.Functions.{func_type}
 use Rattle.zw_wasm.specs.ModuleMachine.{param_types}
 use Rattle.zw_wasm.specs.Reduction.{Action, CallsHost, Config, Ended, Finished, Going, Goes, Trap, Traps, World, after_step, called, resolved, result_of, run, with_world}
 use Rattle.zw_wasm.specs.Signature.{Bytes, Shown, Unsigned, Value, View}
-use Rattle.zw_wasm_run.specs.declared.effect.Pause.TheVariants as pause
+use Rattle.zw_wasm_words.specs.Operands.{IsRuled}
+use Rattle.zw_wasm_run.specs.declared.pause.Pause.TheVariants as pause
 use Rattle.zw_wasm_run.specs.declared.event.Event.{Event}
 use Rattle.zw_wasm_run.specs.declared.host.Hosted.TheVariants as hosted
 use Rattle.zw_wasm_run.specs.declared.invoke.RunEnd.TheVariants as ends
@@ -24,7 +25,6 @@ use Rattle.zw_wasm_run.specs.Invocation.{IsAt, IsReady, Live, RunsSo}
 use Rattle.zw_wasm_run.specs.Loops.{IsSound, Pauses, SameActions, Stand}
 use Rattle.zw_wasm_run.specs.Machines.{AreShows}
 use Rattle.zw_wasm_run.specs.Naming.{named}
-use Rattle.zw_wasm_run.specs.Operands.{IsRuled}
 use Rattle.zw_wasm_run.specs.Premises.{AfterReply, AreSound, Leaves, type_of}
 use Rattle.zw_wasm_run.specs.Stores.{stored, with_store}
 use Rattle.zw_wasm_run.proofs.Naming.{same_called, same_done}
@@ -159,7 +159,7 @@ after_reply P None (Some x) w d has same h = absurd has
 after_reply P (Some t) None w d has same h = absurd has
 after_reply P (Some t) (Some x) w d has same h = h w same x has
 
-answered_world : (r : Option ValType) (reply : Option ℕ) (c : Config) → (answered r reply c).world ≡ c.world
+pub answered_world : (r : Option ValType) (reply : Option ℕ) (c : Config) → (answered r reply c).world ≡ c.world
 answered_world None reply c = refl
 answered_world (Some t) None c = refl
 answered_world (Some t) (Some r) c = refl

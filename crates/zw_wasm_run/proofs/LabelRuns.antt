@@ -10,13 +10,13 @@ use Rattle.zw_wasm.specs.declared.num.Num.TheVariants.{I32, I64}
 use Rattle.zw_wasm.specs.Reduction as reduction
 use Rattle.zw_wasm.specs.Reduction.{Action, Config, Goes, at_work, chosen, on_operand, stands_in, stands_next, under_label, under_loop}
 use Rattle.zw_wasm.specs.Structure.{Code, Block, Choice, Ends, Plain, Repeat, code_of}
-use Rattle.zw_wasm_run.specs.declared.frame.Frame.{Frame}
-use Rattle.zw_wasm_run.specs.declared.frame.Label.{Label}
-use Rattle.zw_wasm_run.specs.Frames.{FrameStands, LabelsStand, Stands, below_labels, under}
-use Rattle.zw_wasm_run.specs.Operands.{IsRuled}
-use Rattle.zw_wasm_run.specs.Words.{Hold}
-use Rattle.zw_wasm_run.proofs.Holding.{hold_length}
-use Rattle.zw_wasm_run.proofs.Shapes.{last_first}
+use Rattle.zw_wasm_words.specs.declared.frame.Frame.{Frame}
+use Rattle.zw_wasm_words.specs.declared.frame.Label.{Label}
+use Rattle.zw_wasm_words.specs.Frames.{FrameStands, LabelsStand, Stands, below_labels, under}
+use Rattle.zw_wasm_words.specs.Operands.{IsRuled}
+use Rattle.zw_wasm_words.specs.Words.{Hold}
+use Rattle.zw_wasm_words.proofs.Holding.{hold_length}
+use Rattle.zw_wasm_words.proofs.Shapes.{last_first}
 
 -- how many words there are
 pub words_count : (words : List ℕ) (vs : List Num) → Hold (reverse words) vs → length words ≡ length vs

@@ -8,35 +8,49 @@ use Rattle.zw_wasm.specs.declared.module.ValType.{ValType}
 use Rattle.zw_wasm.specs.declared.num.Num.{Num}
 use Rattle.zw_wasm.specs.Functions.{func_type}
 use Rattle.zw_wasm.specs.Reduction as reduction
-use Rattle.zw_wasm.specs.Reduction.{Action, CallsHost, Config, Does, Ended, Found, Goes, Going, Over, Trap, Single, Begins, BeginsLoop, Chooses, Traps, Work, World, after_step, at_work, called, done, resolved, run, stands_in, stands_next}
+use Rattle.zw_wasm.specs.Reduction.{Config, Does, Ended, Going, Over, Trap, Single, Begins, BeginsLoop, Chooses, Work, after_step, at_work, called, done, resolved, run, stands_next}
 use Rattle.zw_wasm.specs.Structure.{Code, Ends, Part, choice_of_one, choice_of_two, code_of, first_part, other_parts, parts}
-use Rattle.zw_wasm_run.specs.declared.effect.Pause.TheVariants as pause
-use Rattle.zw_wasm_run.specs.declared.effect.Taken.TheVariants as taken
+use Rattle.zw_wasm_run.specs.declared.pause.Pause.TheVariants as pause
+use Rattle.zw_wasm_run.specs.declared.pause.Taken.TheVariants as taken
 use Rattle.zw_wasm_run.specs.declared.stacks.Stacks.{Stacks}
 use Rattle.zw_wasm_run.specs.declared.store.Store.{Store}
-use Rattle.zw_wasm_run.specs.Loops.{GoesOnTo, IsSound, Pauses, Stand}
+use Rattle.zw_wasm_run.specs.Loops.{IsSound, Pauses, RunsTo, Stand}
 use Rattle.zw_wasm_run.specs.Premises.{AreSound, IsDue, Leaves, WorkIsSound, type_of}
+use Rattle.zw_wasm_run.specs.Rooms.{HoldsFewer, KeepsRoom, RunWants, StepWants}
 use Rattle.zw_wasm_run.specs.Running.{SameNext, StacksStand, at_doing, body_of, next_of}
 use Rattle.zw_wasm_run.specs.Settling.{IsAt, IsAtEnd, IsReached, IsStanding, closes}
 use Rattle.zw_wasm_run.specs.Stores.{Steps, with_store}
+use Rattle.zw_wasm_run.proofs.LoopRooms.{HasCome, comes_first, comes_further, comes_settled, comes_to_host, more_room, room_kept, step_leaves}
 use Rattle.zw_wasm_run.proofs.Runs.{doing, found, run_goes, run_is_due, run_traps, same_run}
 use Rattle.zw_wasm_run.proofs.Stepping.{here_at}
 use Rattle.zw_wasm_run.proofs.StoreSteps.{same_world}
 
+-- a run goes on with these stacks and this store, is sound, and has come so far from the first stacks
+pub record GoesOnTo (m : Module) (ts : List ValType) (first : Stacks) (steps : ℕ) (c : Config) (store : Store) (stacks : Stacks) (left : ℕ) : Type 0 where
+  pub next : Config
+  pub stand : Stand m store stacks next
+  pub world : next.world ≡ with_store store c.world
+  pub sound : AreSound m ts left next
+  pub same : RunsTo m steps c left next
+  pub come : HasCome m first steps c stacks left next
+
 -- a loop's course: a run goes on from each configuration that is sound
 pub record GoesOn (m : Module) (store : Store) (stacks : Stacks) (steps : ℕ) (kept : Store) (new : Stacks) (left : ℕ) : Type 0 where
   pub fewer : left ≤ steps
-  pub by : (ts : List ValType) (c : Config) → Stand m store stacks c → AreSound m ts steps c → GoesOnTo m ts steps c kept new left
+  pub room : KeepsRoom stacks new
+  pub by : (ts : List ValType) (c : Config) → Stand m store stacks c → AreSound m ts steps c → GoesOnTo m ts stacks steps c kept new left
 
 pub goes_on : (m : Module) (store : Store) (stacks : Stacks) (steps : ℕ) → GoesOn m store stacks steps store stacks steps
 goes_on m store stacks steps = record {
   fewer = omega arith;
+  room = room_kept stacks;
   by = λ ts c stands sound. record {
     next = c;
     stand = record { stacks = stands.stacks; store = stands.store };
     world = sym (same_world store c.world stands.store);
     sound = sound;
     same = record { by = λ n v same. refl };
+    come = comes_first m stacks steps c stands.stacks;
   };
 }
 
@@ -57,9 +71,10 @@ sound_alike m ts (suc n) c d same sound = (
 )
 
 -- behind the ends of labels and frames
-pub goes_settled : (m : Module) (store kept : Store) (stacks old new : Stacks) (steps left : ℕ) (i : Instr) → GoesOn m store stacks steps kept old left → IsReached m old i new → GoesOn m store stacks steps kept new left
-goes_settled m store kept stacks old new steps left i goes reached = record {
+pub goes_settled : (m : Module) (store kept : Store) (stacks old new : Stacks) (steps left : ℕ) (i : Instr) → GoesOn m store stacks steps kept old left → KeepsRoom old new → HoldsFewer old new → IsReached m old i new → GoesOn m store stacks steps kept new left
+goes_settled m store kept stacks old new steps left i goes room fewer reached = record {
   fewer = goes.fewer;
+  room = more_room stacks old new goes.room room;
   by = λ ts c stands sound.
       let g = goes.by ts c stands sound in
       let x = reached.by g.next g.stand.stacks in
@@ -69,6 +84,7 @@ goes_settled m store kept stacks old new steps left i goes reached = record {
         world = sym x.same.world ∙ g.world;
         sound = sound_alike m ts left g.next x.next x.same g.sound;
         same = record { by = λ n v same. g.same.by n v same ∙ same_run n v left g.next x.next x.same };
+        come = comes_settled m stacks steps c old new left g.next x.next room fewer x.same g.come;
       };
 }
 
@@ -154,9 +170,10 @@ no_step m store kept stacks new steps left i goes at none = record {
 }
 
 -- a step goes on
-pub goes_further : (m : Module) (store kept last : Store) (stacks old new : Stacks) (steps before left : ℕ) → before ≡ suc left → GoesOn m store stacks steps kept old before → Steps m kept old taken.Goes last new → GoesOn m store stacks steps last new left
-goes_further m store kept last stacks old new steps before left count goes step = record {
+pub goes_further : (m : Module) (store kept last : Store) (stacks old new : Stacks) (steps before left : ℕ) → before ≡ suc left → GoesOn m store stacks steps kept old before → KeepsRoom old new → Steps m kept old taken.Goes last new → GoesOn m store stacks steps last new left
+goes_further m store kept last stacks old new steps before left count goes room step = record {
   fewer = omega (arith, goes.fewer, count);
+  room = more_room stacks old new goes.room room;
   by = λ ts c stands sound.
       let all = subst (λ k. GoesOn m store stacks steps kept old k) count goes in
       let g = all.by ts c stands sound in
@@ -170,7 +187,17 @@ goes_further m store kept last stacks old new steps before left count goes step 
         world = ends.world ∙ ap (λ x. with_store last x) g.world;
         sound = leaves.goes ends.next ends.goes;
         same = record { by = λ n v same. g.same.by n v same ∙ run_goes n v left g.next ends.next w.work w.frame w.stands (same.does w.work (at_doing w.frame g.next) ∙ ends.goes) };
+        come = comes_further m stacks steps c old new left g.next ends.next w.work w.frame g.come w.stands ends.goes ends.stand (more_room stacks old new goes.room room);
       };
+}
+
+-- a step wants memory
+pub run_wants : (m : Module) (store kept : Store) (stacks new : Stacks) (steps before left : ℕ) → before ≡ suc left → GoesOn m store stacks steps kept new before → StepWants m kept new → RunWants m store stacks steps
+run_wants m store kept stacks new steps before left count goes wants = record {
+  by = λ ts c stands sound.
+      let all = subst (λ k. GoesOn m store stacks steps kept new k) count goes in
+      let g = all.by ts c stands sound in
+      step_leaves m stacks kept ts steps c new left g.next g.come goes.room g.stand g.sound.0 wants;
 }
 
 -- a step traps
@@ -212,6 +239,7 @@ calls_out m store kept last stacks old new steps before left f count goes step =
         ruled = λ e. due.ruled (out.calls ∙ e);
         args = λ k args d e. due.args k args d (out.calls ∙ e);
         after = subst (λ x. Leaves m (AreSound m ts left) x) out.calls leaves;
+        comes = comes_to_host m stacks steps c old left g.next out.next w.work w.frame f g.come w.stands out.calls out.imported (λ e. due.ruled (out.calls ∙ e));
         same = λ n v same.
             g.same.by n v same
             ∙ ap (λ s. after_step s g.next.world left (run n v left)) (doing n v g.next w.work w.frame a w.stands (same.does w.work (at_doing w.frame g.next) ∙ out.calls))

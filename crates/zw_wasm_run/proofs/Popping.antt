@@ -6,16 +6,16 @@ use Rattle.zw_wasm.specs.declared.module.ValType.TheVariants as ty
 use Rattle.zw_wasm.specs.declared.num.Num.{Num}
 use Rattle.zw_wasm.specs.declared.num.Num.TheVariants.{I32, I64}
 use Rattle.zw_wasm.specs.Reduction.{Action, Config, Goes, branched, branched_by, branched_unless_zero, label_or, on_one, with_operands}
-use Rattle.zw_wasm_run.specs.declared.effect.Effect.{Effect}
-use Rattle.zw_wasm_run.specs.declared.effect.Effect.TheVariants as effect
-use Rattle.zw_wasm_run.specs.declared.frame.Frame.{Frame}
-use Rattle.zw_wasm_run.specs.declared.frame.Label.{Label}
+use Rattle.zw_wasm_words.specs.declared.effect.Effect.{Effect}
+use Rattle.zw_wasm_words.specs.declared.effect.Effect.TheVariants as effect
+use Rattle.zw_wasm_words.specs.declared.frame.Frame.{Frame}
+use Rattle.zw_wasm_words.specs.declared.frame.Label.{Label}
+use Rattle.zw_wasm_words.specs.Frames.{numbers_of, under}
+use Rattle.zw_wasm_words.specs.Operands.{IsRuled}
+use Rattle.zw_wasm_words.specs.Words.{Hold}
+use Rattle.zw_wasm_words.proofs.Shapes.{last_first}
 use Rattle.zw_wasm_run.specs.declared.stacks.Stacks.{Stacks}
-use Rattle.zw_wasm_run.specs.Frames.{numbers_of, under}
-use Rattle.zw_wasm_run.specs.Operands.{IsRuled}
 use Rattle.zw_wasm_run.specs.Running.{ActsOnStacks, AllStand, EndsSo, StacksStand}
-use Rattle.zw_wasm_run.specs.Words.{Hold}
-use Rattle.zw_wasm_run.proofs.Shapes.{last_first}
 use Rattle.zw_wasm_run.proofs.Stepping.{no_operands}
 
 -- stacks of these parts stand

@@ -4,7 +4,7 @@ use Rattle.zw_wasm.specs.declared.module.Module.{Module}
 use Rattle.zw_wasm.specs.declared.module.ValType.{ValType}
 use Rattle.zw_wasm.specs.declared.num.Num.{Num}
 use Rattle.zw_wasm.specs.Reduction as reduction
-use Rattle.zw_wasm.specs.Reduction.{Action, CallsHost, Config, Does, Ended, Fetched, Finished, Found, Frame, Goes, Going, Next, NoReply, Over, Rests, Returns, Run, Step, Stops, Trap, Traps, Work, World, after_step, at_bound, done, fetched, host_called, replied, resolved, result_of, run, stands_in, step, step_of}
+use Rattle.zw_wasm.specs.Reduction.{Action, CallsHost, Config, Does, Ended, Finished, Found, Frame, Goes, Going, Next, Over, Stops, Trap, Traps, Work, World, after_step, at_bound, done, fetched, host_called, replied, resolved, result_of, run, stands_in, step, step_of}
 use Rattle.zw_wasm_run.specs.Running.{SameNext, at_doing, next_of}
 use Rattle.zw_wasm.specs.Functions.{func_type}
 use Rattle.zw_wasm.specs.Signature.{View, shown_ranges}

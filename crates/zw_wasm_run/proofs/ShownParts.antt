@@ -9,10 +9,10 @@ use Rattle.zw_wasm.specs.declared.num.Num.{Num}
 use Rattle.zw_wasm.specs.declared.num.Num.TheVariants as num
 use Rattle.zw_wasm.specs.Signature.{Bytes, Shown, Value, before_others, bytes_at, scalar_of, shown_ranges, shown_scalars}
 use Rattle.zw_wasm.specs.Structure.{bits_of, number}
+use Rattle.zw_wasm_words.specs.Words.{Hold, bits_in}
 use Rattle.zw_wasm_run.specs.Calls.{ShowParams, is_shown, numbers_read}
 use Rattle.zw_wasm_run.specs.Hosting.{IsPair, first_range, is_length, is_part, numbers_held, numbers_in, ranges_in}
 use Rattle.zw_wasm_run.specs.Premises.{type_of}
-use Rattle.zw_wasm_run.specs.Words.{Hold, bits_in}
 use Rattle.zw_wasm_run.specs.declared.machine.Show.{Show}
 
 -- the parameter behind one that shows bytes shows none

@@ -15,7 +15,7 @@ use Rattle.zw_wasm_sound.specs.Steps.{FitsGlobal, IsTypedAction, IsTypedNext, Is
 use Rattle.zw_wasm_sound.proofs.Entering.{HasTypedBodies}
 use Rattle.zw_wasm_sound.proofs.Operands.{num_of-typed}
 use Rattle.zw_wasm_sound.proofs.Sound.{given-typed, next-typed, world-typed}
-use Rattle.zw_wasm_run.specs.Operands.{HasTypeOf}
+use Rattle.zw_wasm_words.specs.Operands.{HasTypeOf}
 use Rattle.zw_wasm_run.specs.Premises.{AfterReply, AreSound, IsDue, Leaves, SetsFit, WorkIsSound}
 use Rattle.zw_wasm_run.specs.Running.{next_of}
 

@@ -9,17 +9,17 @@ use Rattle.zw_wasm.specs.declared.module.Module.{Module}
 use Rattle.zw_wasm.specs.declared.num.Num.{Num}
 use Rattle.zw_wasm.specs.Reduction as reduction
 use Rattle.zw_wasm.specs.Reduction.{Action, Config, Traps, branched, branched_to, jumped, no_rule, returned}
-use Rattle.zw_wasm_run.specs.declared.effect.Effect.{Effect}
-use Rattle.zw_wasm_run.specs.declared.effect.Effect.TheVariants as effect
-use Rattle.zw_wasm_run.specs.declared.frame.Frame.{Frame}
-use Rattle.zw_wasm_run.specs.declared.frame.Label.{Label}
+use Rattle.zw_wasm_words.specs.declared.effect.Effect.{Effect}
+use Rattle.zw_wasm_words.specs.declared.effect.Effect.TheVariants as effect
+use Rattle.zw_wasm_words.specs.declared.frame.Frame.{Frame}
+use Rattle.zw_wasm_words.specs.declared.frame.Label.{Label}
+use Rattle.zw_wasm_words.specs.Frames.{BranchesOn, KeepsResults, LabelsStand, below_labels, numbers_of, under}
+use Rattle.zw_wasm_words.specs.Operands.{IsRuled}
+use Rattle.zw_wasm_words.proofs.BranchWords.{enough, label_at}
+use Rattle.zw_wasm_words.proofs.Holding.{under_long}
 use Rattle.zw_wasm_run.specs.declared.stacks.Stacks.{Stacks}
-use Rattle.zw_wasm_run.specs.Frames.{BranchesOn, KeepsResults, LabelsStand, below_labels, numbers_of, under}
-use Rattle.zw_wasm_run.specs.Operands.{IsRuled}
 use Rattle.zw_wasm_run.specs.Running.{ActsOnStacks, AllStand, EndsSo, GoesTo, body_of, own_labels}
 use Rattle.zw_wasm_run.proofs.AllFrames.{branch_goes, own_fewer, own_more, return_goes, returned_by}
-use Rattle.zw_wasm_run.proofs.BranchWords.{enough, label_at}
-use Rattle.zw_wasm_run.proofs.Holding.{under_long}
 use Rattle.zw_wasm_run.proofs.LabelRuns.{words_count}
 
 -- stacks of these parts
@@ -101,7 +101,7 @@ give_back_goes m end old new behind keeps frame frames labels = record {
 }
 
 -- a frame has as many labels in the configuration
-labels_count : (instrs : List Instr) (ks : List Label) (ls : List reduction.Label) (lower : List Num) → LabelsStand instrs ks ls lower → length ls ≡ length ks
+pub labels_count : (instrs : List Instr) (ks : List Label) (ls : List reduction.Label) (lower : List Num) → LabelsStand instrs ks ls lower → length ls ≡ length ks
 labels_count instrs [] [] lower h = refl
 labels_count instrs [] (l ∷ ls) lower h = absurd h
 labels_count instrs (k ∷ ks) [] lower h = absurd h

@@ -11,17 +11,17 @@ use Rattle.zw_wasm.specs.declared.num.Num.{Num}
 use Rattle.zw_wasm.specs.Reduction as reduction
 use Rattle.zw_wasm.specs.Reduction.{Begins, BeginsLoop, Chooses, Config, Single, act, at_work, stands_next, under_label, under_loop}
 use Rattle.zw_wasm.specs.Structure.{code_of, is_plain}
+use Rattle.zw_wasm_words.specs.declared.effect.Effect.{Effect}
+use Rattle.zw_wasm_words.specs.declared.effect.Effect.TheVariants as effect
+use Rattle.zw_wasm_words.specs.declared.frame.Frame.{Frame}
+use Rattle.zw_wasm_words.specs.declared.frame.Label.{Label}
+use Rattle.zw_wasm_words.specs.Frames.{ReturnsOn, Stands, numbers_of, under}
+use Rattle.zw_wasm_words.specs.Words.{Hold}
 use Rattle.zw_wasm_run.specs.declared.control.Arms.{Arms}
 use Rattle.zw_wasm_run.specs.declared.control.SequenceEnd.{SequenceEnd}
-use Rattle.zw_wasm_run.specs.declared.effect.Effect.{Effect}
-use Rattle.zw_wasm_run.specs.declared.effect.Effect.TheVariants as effect
-use Rattle.zw_wasm_run.specs.declared.frame.Frame.{Frame}
-use Rattle.zw_wasm_run.specs.declared.frame.Label.{Label}
 use Rattle.zw_wasm_run.specs.declared.stacks.Stacks.{Stacks}
 use Rattle.zw_wasm_run.specs.Control.{AreArms, IsEnd}
-use Rattle.zw_wasm_run.specs.Frames.{ReturnsOn, Stands, numbers_of, under}
 use Rattle.zw_wasm_run.specs.Running.{ActsOnStacks, AllStand, EndsFrame, EndsLabel, StacksStand, TakesStep, body_of, own_labels}
-use Rattle.zw_wasm_run.specs.Words.{Hold}
 use Rattle.zw_wasm_run.proofs.AllFrames.{call_ends, frame_ends, label_ends, stays, stays_within}
 use Rattle.zw_wasm_run.proofs.FlatCode.{code_of-block, code_of-choice, code_of-loop, code_of-plain}
 use Rattle.zw_wasm_run.proofs.LabelRuns.{block_begins, choice_begins, loop_begins}

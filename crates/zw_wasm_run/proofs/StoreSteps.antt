@@ -10,19 +10,19 @@ use Rattle.zw_wasm.specs.declared.num.Num.{Num}
 use Rattle.zw_wasm.specs.Functions.{func_type}
 use Rattle.zw_wasm.specs.Reduction as reduction
 use Rattle.zw_wasm.specs.Reduction.{Action, Config, Goes, Traps, World, act, called, called_at, called_by, no_entry_trap, no_rule, on_one, on_operand, same_func_type, signature_trap, with_global, with_memory, with_operands}
-use Rattle.zw_wasm_run.specs.declared.effect.Effect.{Effect}
-use Rattle.zw_wasm_run.specs.declared.effect.Effect.TheVariants as effect
-use Rattle.zw_wasm_run.specs.declared.effect.Taken.{Taken}
-use Rattle.zw_wasm_run.specs.declared.effect.Taken.TheVariants as taken
-use Rattle.zw_wasm_run.specs.declared.frame.Frame.{Frame}
-use Rattle.zw_wasm_run.specs.declared.frame.Label.{Label}
+use Rattle.zw_wasm_words.specs.declared.effect.Effect.{Effect}
+use Rattle.zw_wasm_words.specs.declared.effect.Effect.TheVariants as effect
+use Rattle.zw_wasm_words.specs.declared.frame.Frame.{Frame}
+use Rattle.zw_wasm_words.specs.declared.frame.Label.{Label}
+use Rattle.zw_wasm_words.specs.Frames.{numbers_of, under}
+use Rattle.zw_wasm_words.specs.Operands.{EndsOn, EndsSetting, EndsWriting, HasTypeOf, IsRuled, ReadsGlobals, ReadsMemory, SetsGlobal, WritesMemory, with_globals}
+use Rattle.zw_wasm_words.specs.Words.{Hold}
+use Rattle.zw_wasm_run.specs.declared.pause.Taken.{Taken}
+use Rattle.zw_wasm_run.specs.declared.pause.Taken.TheVariants as taken
 use Rattle.zw_wasm_run.specs.declared.stacks.Stacks.{Stacks}
 use Rattle.zw_wasm_run.specs.declared.store.Store.{Store}
-use Rattle.zw_wasm_run.specs.Frames.{numbers_of, under}
-use Rattle.zw_wasm_run.specs.Operands.{EndsOn, EndsSetting, EndsWriting, HasTypeOf, IsRuled, ReadsGlobals, ReadsMemory, SetsGlobal, WritesMemory, with_globals}
 use Rattle.zw_wasm_run.specs.Running.{ActsOnStacks, AllStand, EndsSo, GoesTo, SameParts, StacksStand}
 use Rattle.zw_wasm_run.specs.Stores.{Calls, EndsWith, Executes, entry_of, stored, taken_of, with_store}
-use Rattle.zw_wasm_run.specs.Words.{Hold}
 use Rattle.zw_wasm_run.proofs.Popping.{popped, stand_as}
 use Rattle.zw_wasm_run.proofs.Stacked.{goes_as}
 use Rattle.zw_wasm_run.proofs.Stepping.{no_operands}
@@ -184,7 +184,7 @@ by_none m k None c e = refl
 by_none m k (Some None) c e = refl
 by_none m k (Some (Some f)) c e = absurd (cc)
 
-by_some : (m : Module) (k : Option FuncType) (o : Option (Option ℕ)) (f : ℕ) (b : Bool) (c : Config) → entry_of o ≡ Some f → same_func_type k (func_type m f) ≡ b → called_by m k o c ≡ (if b then called m f (func_type m f) c else Traps signature_trap)
+pub by_some : (m : Module) (k : Option FuncType) (o : Option (Option ℕ)) (f : ℕ) (b : Bool) (c : Config) → entry_of o ≡ Some f → same_func_type k (func_type m f) ≡ b → called_by m k o c ≡ (if b then called m f (func_type m f) c else Traps signature_trap)
 by_some m k None f b c e test = absurd (cc)
 by_some m k (Some None) f b c e test = absurd (cc)
 by_some m k (Some (Some g)) f b c e test =

@@ -12,12 +12,12 @@ use Rattle.zw_wasm.specs.ModuleMachine.{param_types}
 use Rattle.zw_wasm.specs.Reduction.{Action, Config, Goes, CallsHost, Traps, NoReply, Step, Next, Stops, Store, Trap, World, bounds_trap, called, pushed, resolved, result_of, with_world}
 use Rattle.zw_wasm.specs.Signature.{View, before_others, bytes_at}
 use Rattle.zw_wasm.specs.Structure.{bits_of, num_of, number}
+use Rattle.zw_wasm_words.specs.Operands.{IsRuled}
+use Rattle.zw_wasm_words.specs.Words.{bits_in}
 use Rattle.zw_wasm_run.specs.Calls.{ShowsTo, is_shown, seen}
 use Rattle.zw_wasm_run.specs.Naming.{named}
-use Rattle.zw_wasm_run.specs.Operands.{IsRuled}
 use Rattle.zw_wasm_run.specs.Premises.{type_of}
 use Rattle.zw_wasm_run.specs.Running.{StacksStand}
-use Rattle.zw_wasm_run.specs.Words.{bits_in}
 use Rattle.zw_wasm_run.specs.declared.event.Event.{Event}
 use Rattle.zw_wasm_run.specs.declared.ask.Answer.{Answer}
 use Rattle.zw_wasm_run.specs.declared.ask.Answer.TheVariants as answer

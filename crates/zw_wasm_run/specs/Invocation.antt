@@ -11,6 +11,7 @@ use Rattle.zw_wasm.specs.Reduction.{Config, Ended, Finished, Goes, Going, NoRepl
 use Rattle.zw_wasm.specs.Signature.{View}
 use Rattle.zw_wasm.specs.Structure.{number}
 use Rattle.zw_wasm_sound.specs.Configurations.{IsTypedStore}
+use Rattle.zw_wasm_words.specs.Words.{Hold, bits_in}
 use Rattle.zw_wasm_run.specs.declared.event.Event.{Event}
 use Rattle.zw_wasm_run.specs.declared.event.Outcome.{Outcome}
 use Rattle.zw_wasm_run.specs.declared.event.Outcome.TheVariants as outcome
@@ -27,7 +28,6 @@ use Rattle.zw_wasm_run.specs.Premises.{AreSound, type_of}
 use Rattle.zw_wasm_run.specs.Running.{StacksStand}
 use Rattle.zw_wasm_run.specs.Shows.{AreShows, IsExported}
 use Rattle.zw_wasm_run.specs.Stores.{stored}
-use Rattle.zw_wasm_run.specs.Words.{Hold, bits_in}
 
 -- what a call that runs has: the store, the stacks, the steps that are left, and what the host has
 pub record Live : Type 0 where

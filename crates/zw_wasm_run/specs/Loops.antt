@@ -7,11 +7,12 @@ use Rattle.zw_wasm.specs.Functions.{func_type}
 use Rattle.zw_wasm.specs.ModuleMachine.{param_types}
 use Rattle.zw_wasm.specs.Reduction.{CallsHost, Config, Ended, Going, Trap, Work, after_step, called, done, resolved, run}
 use Rattle.zw_wasm.specs.Signature.{View}
-use Rattle.zw_wasm_run.specs.declared.effect.Pause.{Pause}
-use Rattle.zw_wasm_run.specs.declared.effect.Pause.TheVariants as pause
+use Rattle.zw_wasm_reach.specs.Reaches.{CallsOut, Reaches}
+use Rattle.zw_wasm_words.specs.Operands.{IsRuled}
+use Rattle.zw_wasm_run.specs.declared.pause.Pause.{Pause}
+use Rattle.zw_wasm_run.specs.declared.pause.Pause.TheVariants as pause
 use Rattle.zw_wasm_run.specs.declared.stacks.Stacks.{Stacks}
 use Rattle.zw_wasm_run.specs.declared.store.Store.{Store}
-use Rattle.zw_wasm_run.specs.Operands.{IsRuled}
 use Rattle.zw_wasm_run.specs.Premises.{AreSound, Leaves, type_of}
 use Rattle.zw_wasm_run.specs.Running.{CallEnds, StacksStand}
 use Rattle.zw_wasm_run.specs.Stores.{stored, with_store}
@@ -28,14 +29,6 @@ pub record Stand (m : Module) (kept : Store) (held : Stacks) (c : Config) : Type
 -- a run goes on in another configuration with fewer steps, whatever the host sees
 pub record RunsTo (m : Module) (steps : ℕ) (c : Config) (left : ℕ) (d : Config) : Type 0 where
   pub by : (n : Module) (v : View) → SameActions m n → run n v steps c ≡ run n v left d
-
--- a run goes on with these stacks and this store, and is sound
-pub record GoesOnTo (m : Module) (ts : List ValType) (steps : ℕ) (c : Config) (store : Store) (stacks : Stacks) (left : ℕ) : Type 0 where
-  pub next : Config
-  pub stand : Stand m store stacks next
-  pub world : next.world ≡ with_store store c.world
-  pub sound : AreSound m ts left next
-  pub same : RunsTo m steps c left next
 
 -- the call has ended, and the words are the results, whose types these are
 pub record IsOver (m : Module) (ts : List ValType) (steps : ℕ) (c : Config) (store : Store) (stacks : Stacks) (left : ℕ) : Type 0 where
@@ -54,6 +47,14 @@ pub record HasNoStep (m : Module) (steps : ℕ) (c : Config) (store : Store) (le
 pub record EndsInTrap (m : Module) (steps : ℕ) (c : Config) (code : ℕ) (store : Store) (left : ℕ) : Type 0 where
   pub by : (n : Module) (v : View) → SameActions m n → run n v steps c ≡ Ended (Trap code) (with_store store c.world) left
 
+-- within so many instructions a function of the host is called
+pub record ComesToHost (m : Module) (steps : ℕ) (c : Config) : Type 0 where
+  pub taken : ℕ
+  pub place : Config
+  pub within : taken < steps
+  pub reached : Reaches m c taken place
+  pub calls : CallsOut m place
+
 -- an imported function is called: its arguments are the last words still, and a step was taken for it
 pub record WaitsForHost (m : Module) (ts : List ValType) (steps : ℕ) (c : Config) (f : ℕ) (store : Store) (stacks : Stacks) (left : ℕ) : Type 0 where
   pub next : Config
@@ -63,6 +64,7 @@ pub record WaitsForHost (m : Module) (ts : List ValType) (steps : ℕ) (c : Conf
   pub ruled : IsRuled (called m f (func_type m f) next)
   pub args : (k : ℕ) (args : List Num) (d : Config) → called m f (func_type m f) next ≡ CallsHost k args d → map type_of args ≡ param_types (func_type m k)
   pub after : Leaves m (AreSound m ts left) (called m f (func_type m f) next)
+  pub comes : ComesToHost m steps c
   pub same : (n : Module) (v : View) → SameActions m n → run n v steps c ≡ after_step (resolved n v next.world (called m f (func_type m f) next)) next.world left (run n v left)
 
 abbrev pub PausesSo : Module → List ValType → ℕ → Config → Pause → Store → Stacks → ℕ → Type 0

@@ -1,5 +1,5 @@
 -- MachineCalls: what a call of an exported function makes of a machine.
-use Rattle.std.specs.Prelude.{◌≡◌, ℕ, ◌≤◌, vec_capacity, Bool, true, false, List, ◌++◌}
+use Rattle.std.specs.Prelude.{◌≡◌, ℕ, Bool, true, false, List, ◌++◌}
 use Rattle.std.specs.List.{AllByRecursion}
 use Rattle.zw_wasm.specs.declared.num.Num.{Num}
 use Rattle.zw_wasm_run.specs.declared.event.Event.{Event}
@@ -48,11 +48,6 @@ CallEnds false func given old end new = Runs func given old end new
 pub record SameCode (old new : Machine) : Type 0 where
   pub code : new.code ≡ old.code
   pub shows : new.shows ≡ old.shows
-
--- a machine has room for so many frames that wait, and for so many operands and locals over all frames
-pub record HasRoom (x : Machine) (waiting values : ℕ) : Type 0 where
-  pub frames : waiting ≤ vec_capacity x.stacks.frames
-  pub words : values ≤ vec_capacity x.stacks.words
 
 -- only the stacks have changed, between calls
 pub record SameButStacks (old new : Machine) : Type 0 where

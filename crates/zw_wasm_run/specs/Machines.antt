@@ -6,13 +6,13 @@ use Rattle.zw_wasm.specs.declared.module.Limits.{Limits}
 use Rattle.zw_wasm.specs.ModuleMachine.{exported_global, first_store}
 use Rattle.zw_wasm.specs.Reduction.{Store}
 use Rattle.zw_wasm.specs.Signature.{bytes_at}
+use Rattle.zw_wasm_words.specs.Segments.{datas_inside, elements_inside, first_false, first_outside}
 use Rattle.zw_wasm_run.specs.declared.held.Machine.{Machine}
 use Rattle.zw_wasm_run.specs.declared.machine.NewErr.{NewErr}
 use Rattle.zw_wasm_run.specs.declared.machine.NewErr.TheVariants as error
 use Rattle.zw_wasm_run.specs.declared.machine.Show.{Show}
 pub use Rattle.zw_wasm_run.specs.Shows.{AreApart, AreShows, IsShow}
 use Rattle.zw_wasm_run.specs.Stores.{stored}
-use Rattle.zw_wasm_run.specs.Segments.{datas_inside, elements_inside, first_false, first_outside}
 use Rattle.std.specs.Option.{option_map}
 
 -- what a machine's frames share

@@ -9,7 +9,7 @@ use Rattle.zw_wasm.specs.ModuleMachine.{param_types}
 use Rattle.zw_wasm.specs.Structure.{num_of}
 use Rattle.zw_wasm.specs.Reduction.{Action, CallsHost, Config, Found, Frame, Goes, Over, Single, Work, World, done, pushed, result_of, with_world}
 pub use Rattle.zw_wasm_sound.specs.Rules.{type_of}
-use Rattle.zw_wasm_run.specs.Operands.{HasTypeOf, IsRuled}
+use Rattle.zw_wasm_words.specs.Operands.{HasTypeOf, IsRuled}
 use Rattle.zw_wasm_run.specs.Running.{next_of}
 
 -- a global is set to an operand of its type

@@ -3,17 +3,18 @@ use Rattle.std.specs.Prelude.{◌≡◌, ℕ, ◌≤◌, Bool, true, false, List
 use Rattle.zw_wasm.specs.declared.module.Module.{Module}
 use Rattle.zw_wasm.specs.ModuleMachine.{host_frame}
 use Rattle.zw_wasm.specs.Reduction as reduction
-use Rattle.zw_wasm.specs.Reduction.{Action, Config, Does, Fetched, Goes, Over, Traps, Work, World, done, fetched, stands_in}
+use Rattle.zw_wasm.specs.Reduction.{Action, Config, Does, Goes, Over, Traps, Work, World, done, stands_in}
 use Rattle.zw_wasm.specs.Structure.{Ends}
-use Rattle.zw_wasm_run.specs.Words.{Hold}
+use Rattle.zw_wasm_words.specs.Words.{Hold}
+use Rattle.zw_wasm_words.specs.declared.effect.Effect.{Effect}
+use Rattle.zw_wasm_words.specs.declared.effect.Effect.TheVariants as effect
+use Rattle.zw_wasm_words.specs.declared.frame.Frame.{Frame}
+use Rattle.zw_wasm_words.specs.declared.frame.Label.{Label}
+use Rattle.zw_wasm_words.specs.Operands.{IsRuled}
+use Rattle.zw_wasm_words.specs.Frames.{FrameStands, Stands, numbers_of}
 pub use Rattle.zw_wasm_run.specs.Bodies.{body_of, instrs_in}
-use Rattle.zw_wasm_run.specs.declared.effect.Effect.{Effect}
-use Rattle.zw_wasm_run.specs.declared.effect.Effect.TheVariants as effect
-use Rattle.zw_wasm_run.specs.declared.frame.Frame.{Frame}
-use Rattle.zw_wasm_run.specs.declared.frame.Label.{Label}
 use Rattle.zw_wasm_run.specs.declared.stacks.Stacks.{Stacks}
-use Rattle.zw_wasm_run.specs.Operands.{IsRuled}
-use Rattle.zw_wasm_run.specs.Frames.{FrameStands, Stands, numbers_of}
+pub use Rattle.zw_wasm_reach.specs.Reaches.{next_of}
 
 -- the labels of the innermost frame, the innermost first, of which so many lie below it
 abbrev pub own_labels : ℕ → List Label → List Label
@@ -67,10 +68,6 @@ pub record WorkEnds (m : Module) (c : Config) (e : Effect) (new : Stacks) : Type
 -- a step that an instruction takes, from the place where it stands
 pub record TakesStep (m : Module) (old : Stacks) (e : Effect) (new : Stacks) : Type 0 where
   pub by : (c : Config) → StacksStand m old c → WorkEnds m c e new
-
--- what comes next in a configuration
-abbrev pub next_of : Config → Fetched
-next_of c = fetched (stands_in c.frame) c.below
 
 -- two configurations in one world in which the same comes next
 pub record SameNext (c d : Config) : Type 0 where

@@ -5,10 +5,10 @@ use Rattle.zw_wasm.specs.declared.module.Module.{Module}
 use Rattle.zw_wasm.specs.Functions.{func_type}
 use Rattle.zw_wasm.specs.Reduction as reduction
 use Rattle.zw_wasm.specs.Reduction.{Action, Config, Does, Single, Traps, Work, World, act, called, done, stands_in}
-use Rattle.zw_wasm_run.specs.declared.effect.Effect.{Effect}
-use Rattle.zw_wasm_run.specs.declared.effect.Effect.TheVariants as effect
-use Rattle.zw_wasm_run.specs.declared.effect.Taken.{Taken}
-use Rattle.zw_wasm_run.specs.declared.effect.Taken.TheVariants as taken
+use Rattle.zw_wasm_words.specs.declared.effect.Effect.{Effect}
+use Rattle.zw_wasm_words.specs.declared.effect.Effect.TheVariants as effect
+use Rattle.zw_wasm_run.specs.declared.pause.Taken.{Taken}
+use Rattle.zw_wasm_run.specs.declared.pause.Taken.TheVariants as taken
 use Rattle.zw_wasm_run.specs.declared.stacks.Stacks.{Stacks}
 use Rattle.zw_wasm_run.specs.declared.store.Store.{Store}
 use Rattle.zw_wasm_run.specs.Premises.{WorkIsSound}

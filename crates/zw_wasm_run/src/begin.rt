@@ -1,19 +1,19 @@
 // How blocks, loops and choices begin, on the stacks of a call (4.4.5.3 to 4.4.5.5). The frame's place is that of the
 // instruction.
-ghost use Rattle.std.specs.Prelude.{◌≡◌, ◌%◌, ◌^◌, Some, IfOk, if◌then◌else◌, nat_eq, length, slice_get};
+ghost use Rattle.std.specs.Prelude.{◌≡◌, ◌%◌, ◌^◌, Some, IfOk, if◌then◌else◌, nat_eq, length, slice_get, IfErr};
 ghost use Rattle.std.specs.Option.{option_to_list};
 ghost use Rattle.zw_wasm.specs.declared.module.Module.{Module};
 ghost use Rattle.zw_wasm.specs.declared.module.Instr.TheVariants as instr;
+ghost use Rattle.zw_wasm_words.specs.FullLists.{IsFullList};
 ghost use Rattle.zw_wasm_run.specs.Control.{AreEnds};
 ghost use Rattle.zw_wasm_run.specs.Running.{TakesStep, body_of};
+ghost use Rattle.zw_wasm_run.specs.Rooms.{KeepsRoom};
 
 use crate::control::{Arms, SequenceEnd, arms_at};
-use crate::effect::{Effect, NO_RULE};
-use crate::frame::Label;
 use crate::stacks::Stacks;
-use crate::words::low;
 use std::alloc::AllocError;
 use zw_wasm::{Instr, ValType};
+use zw_wasm_words::{Effect, Label, NO_RULE, low};
 
 /// A block begins under a label, past which a branch goes.
 pub fn block(
@@ -24,7 +24,9 @@ pub fn block(
 ) -> Result<Effect, AllocError>
     requires here { slice_get instrs.now stacks.old.frame.at ≡ Some (instr.Block ty) }
     requires ends { AreEnds instrs.now ends.now }
-    ensures { IfOk result (λ e. (m : Module) → instrs.now ≡ body_of m stacks.old.frame.body → TakesStep m stacks.old e stacks.new) }
+    ensures takes { IfOk result (λ e. (m : Module) → instrs.now ≡ body_of m stacks.old.frame.body → TakesStep m stacks.old e stacks.new) }
+    ensures wants { IfErr result (λ e. IsFullList stacks.old.labels) }
+    ensures room { KeepsRoom stacks.old stacks.new }
 {
     let inner = stacks.frame.at + 1;
     let follows = ends[inner].next;
@@ -48,7 +50,9 @@ pub fn repeat(
 ) -> Result<Effect, AllocError>
     requires here { slice_get instrs.now stacks.old.frame.at ≡ Some (instr.Loop ty) }
     requires ends { AreEnds instrs.now ends.now }
-    ensures { IfOk result (λ e. (m : Module) → instrs.now ≡ body_of m stacks.old.frame.body → TakesStep m stacks.old e stacks.new) }
+    ensures takes { IfOk result (λ e. (m : Module) → instrs.now ≡ body_of m stacks.old.frame.body → TakesStep m stacks.old e stacks.new) }
+    ensures wants { IfErr result (λ e. IsFullList stacks.old.labels) }
+    ensures room { KeepsRoom stacks.old stacks.new }
 {
     let place = stacks.frame.at;
     let label = Label {
@@ -71,7 +75,9 @@ pub fn choice(
 ) -> Result<Effect, AllocError>
     requires here { slice_get instrs.now stacks.old.frame.at ≡ Some (instr.If ty) }
     requires ends { AreEnds instrs.now ends.now }
-    ensures { IfOk result (λ e. (m : Module) → instrs.now ≡ body_of m stacks.old.frame.body → TakesStep m stacks.old e stacks.new) }
+    ensures takes { IfOk result (λ e. (m : Module) → instrs.now ≡ body_of m stacks.old.frame.body → TakesStep m stacks.old e stacks.new) }
+    ensures wants { IfErr result (λ e. IsFullList stacks.old.labels) }
+    ensures room { KeepsRoom stacks.old stacks.new }
 {
     let arms = arms_at(instrs, ends, stacks.frame.at);
     let Some(word) = stacks.words.pop() else {

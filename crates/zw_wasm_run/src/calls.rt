@@ -1,20 +1,19 @@
 // Calls of functions that have a body, on the stacks of a call (4.4.5.10, 4.4.7.1).
-ghost use Rattle.std.specs.Prelude.{◌≡◌, ◌-◌, ◌≤◌, ◌++◌, length, option_copied, slice_get, OnOk, IfOk};
+ghost use Rattle.std.specs.Prelude.{◌≡◌, ◌-◌, ◌≤◌, ◌++◌, length, option_copied, slice_get, OnOk, IfOk, IfErr};
 ghost use Rattle.std.specs.Option.{option_to_list};
 ghost use Rattle.zw_wasm.specs.declared.module.Module.{Module};
 ghost use Rattle.zw_wasm.specs.Functions.{func_type, func_type_indices};
 ghost use Rattle.zw_wasm.specs.Reduction.{called};
+ghost use Rattle.zw_wasm_words.specs.Words.{zero_words};
 ghost use Rattle.zw_wasm_run.specs.Running.{ActsOnStacks};
-ghost use Rattle.zw_wasm_run.specs.Words.{zero_words};
+ghost use Rattle.zw_wasm_run.specs.Rooms.{KeepsRoom, WantsForCall};
 
 use crate::begin::results;
-use crate::effect::{Effect, FRAMES, NO_RULE};
-use crate::enter::push_locals;
-use crate::frame::Frame;
 use crate::stacks::Stacks;
 use sqlite_items::at;
 use std::alloc::AllocError;
 use zw_wasm::{FuncType, Module};
+use zw_wasm_words::{Effect, FRAMES, Frame, NO_RULE, push_locals};
 
 /// How many frames may be active.
 const MAX_FRAMES: usize = 2_100;
@@ -23,7 +22,9 @@ const MAX_FRAMES: usize = 2_100;
 /// are active.
 pub fn call(m: &Module, func: usize, stacks: &mut Stacks) -> Result<Effect, AllocError>
     requires own { length m.now.imports ≤ func }
-    ensures { IfOk result (λ e. ActsOnStacks m.now (called m.now func (func_type m.now func)) stacks.old e stacks.new) }
+    ensures acts { IfOk result (λ e. ActsOnStacks m.now (called m.now func (func_type m.now func)) stacks.old e stacks.new) }
+    ensures wants { IfErr result (λ e. WantsForCall m.now func stacks.old) }
+    ensures room { KeepsRoom stacks.old stacks.new }
 {
     let Some(ty) = func_type(m, func) else {
         return Ok(Effect::Traps(NO_RULE));

@@ -1,15 +1,15 @@
 // How a call of a function with a body begins: its arguments and its locals (4.4.7.1).
-ghost use Rattle.std.specs.Prelude.{◌≡◌, ◌-◌, ◌<◌, ◌≤◌, Some, length, OnOk};
+ghost use Rattle.std.specs.Prelude.{◌≡◌, ◌-◌, ◌<◌, ◌≤◌, Some, length, vec_capacity, IfErr, OnOk};
 ghost use Rattle.zw_wasm.specs.Functions.{func_type};
+ghost use Rattle.zw_wasm_words.specs.Words.{Hold, Holds};
 ghost use Rattle.zw_wasm_run.specs.Invocation.{BeginsCall};
-ghost use Rattle.zw_wasm_run.specs.Words.{Hold, Holds};
+ghost use Rattle.zw_wasm_run.specs.Rooms.{BeginsBeyond, KeepsRoom};
 
 use crate::begin::results;
-use crate::enter::push_locals;
-use crate::frame::Frame;
 use crate::stacks::Stacks;
 use std::alloc::{AllocError, Global};
 use zw_wasm::{FuncType, Module, Num};
+use zw_wasm_words::{Frame, push_locals};
 
 /// Stacks that hold nothing yet.
 pub fn no_stacks(alloc: Global) -> Stacks {
@@ -40,7 +40,9 @@ pub fn begin(
     requires own { length m.now.imports ≤ func }
     requires there { func - length m.now.imports < length m.now.codes }
     requires typed { func_type m.now func ≡ Some ty.now }
-    ensures { OnOk result (BeginsCall m.now func args.now stacks.new) }
+    ensures begins { OnOk result (BeginsCall m.now func args.now stacks.new) }
+    ensures wants { IfErr result (λ e. BeginsBeyond m.now func args.now stacks.old) }
+    ensures room { KeepsRoom stacks.old stacks.new }
 {
     let body = func - m.imports.len();
     let code = &m.codes.as_slice()[body];
@@ -61,7 +63,9 @@ pub fn begin(
 
 /// The words of arguments, in place of all others.
 pub fn push_args(args: &[Num], words: &mut Vec<u64>) -> Result<(), AllocError>
-    ensures { OnOk result (Hold words.new.items args.now) }
+    ensures held { OnOk result (Hold words.new.items args.now) }
+    ensures wants { IfErr result (λ e. vec_capacity words.old < length args.now) }
+    ensures room { vec_capacity words.old ≤ vec_capacity words.new }
 {
     words.clear();
     for arg in args {

@@ -1,13 +1,13 @@
 // Calls of functions of a module from outside, imported ones and those with a body (4.5.5).
-ghost use Rattle.std.specs.Prelude.{◌≡◌, ◌≤◌, ◌<◌, Some, length, IfOk};
+ghost use Rattle.std.specs.Prelude.{◌≡◌, ◌≤◌, ◌<◌, Some, length, IfErr, IfOk};
 ghost use Rattle.zw_wasm.specs.Functions.{func_type};
 ghost use Rattle.zw_wasm.specs.Validity.{IsValid};
 ghost use Rattle.zw_wasm_run.specs.Invocation.{Called, MayCall, number_in, outcome_of};
+ghost use Rattle.zw_wasm_run.specs.Rooms.{FunctionWants, KeepsRoom};
 
 use crate::ask::{Answer, ask_host};
 use crate::calls::func_type;
 use crate::code::Code;
-use crate::effect::{BOUNDS, NO_RULE};
 use crate::entry::{begin, push_args};
 use crate::event::{Event, Outcome};
 use crate::invoke::{RunEnd, run};
@@ -18,6 +18,7 @@ use crate::stacks::Stacks;
 use crate::store::Store;
 use std::alloc::AllocError;
 use zw_wasm::{FuncType, Module, Num, ValType};
+use zw_wasm_words::{BOUNDS, NO_RULE};
 
 /// Calls a function with arguments of its types. At most so many steps are taken, and what is left of them is told.
 pub fn call_function(
@@ -32,7 +33,9 @@ pub fn call_function(
     log: &mut Vec<Event>,
 ) -> Result<Outcome, AllocError>
     requires { MayCall code.now shows.now func args.now (record { store = store.old; stacks = stacks.old; steps = steps.old; host = record { replies = replies.old; log = log.old.items } }) }
-    ensures { IfOk result (λ end. Called code.now shows.now func args.now (record { store = store.old; stacks = stacks.old; steps = steps.old; host = record { replies = replies.old; log = log.old.items } }) end (record { store = store.new; stacks = stacks.new; steps = steps.new; host = record { replies = replies.new; log = log.new.items } })) }
+    ensures called { IfOk result (λ end. Called code.now shows.now func args.now (record { store = store.old; stacks = stacks.old; steps = steps.old; host = record { replies = replies.old; log = log.old.items } }) end (record { store = store.new; stacks = stacks.new; steps = steps.new; host = record { replies = replies.new; log = log.new.items } })) }
+    ensures wants { IfErr result (λ e. FunctionWants code.now func args.now (record { store = store.old; stacks = stacks.old; steps = steps.old; host = record { replies = replies.old; log = log.old.items } })) }
+    ensures room { KeepsRoom stacks.old stacks.new }
 {
     let module = code.checked().module();
     let Some(ty) = func_type(module, func as usize) else {
@@ -65,7 +68,8 @@ fn call_import(
     requires valid { IsValid m.now }
     requires imported { func < length m.now.imports }
     requires typed { func_type m.now func ≡ Some ty.now }
-    ensures { IfOk result (λ end. Called m.now shows.now func args.now (record { store = store.now; stacks = stacks.old; steps = steps.now; host = record { replies = replies.old; log = log.old.items } }) end (record { store = store.now; stacks = stacks.new; steps = steps.now; host = record { replies = replies.new; log = log.new.items } })) }
+    ensures called { IfOk result (λ end. Called m.now shows.now func args.now (record { store = store.now; stacks = stacks.old; steps = steps.now; host = record { replies = replies.old; log = log.old.items } }) end (record { store = store.now; stacks = stacks.new; steps = steps.now; host = record { replies = replies.new; log = log.new.items } })) }
+    ensures room { KeepsRoom stacks.old stacks.new }
 {
     push_args(args, &mut stacks.words)?;
     let memory = store.memory.as_slice();

@@ -2,16 +2,17 @@
 ghost use Rattle.std.specs.Prelude.{◌≡◌, ◌<◌, length, IfOk};
 ghost use Rattle.zw_wasm_run.specs.Hosting.{CallsHostOn};
 ghost use Rattle.zw_wasm_run.specs.Machines.{AreShows};
+ghost use Rattle.zw_wasm_run.specs.Rooms.{KeepsRoom};
 
 use crate::ask::{Answer, ask_host};
 use crate::calls::func_type;
-use crate::effect::{BOUNDS, NO_RULE};
 use crate::event::Event;
 use crate::machine::Show;
 use crate::replies::Replies;
 use crate::stacks::Stacks;
 use std::alloc::AllocError;
 use zw_wasm::Module;
+use zw_wasm_words::{BOUNDS, NO_RULE};
 
 /// What a call of a function of the host comes to.
 #[derive(Clone, Copy, Debug, PartialEq, Eq)]
@@ -36,7 +37,8 @@ pub fn call_host(
 ) -> Result<Hosted, AllocError>
     requires imported { import < length m.now.imports }
     requires shown { AreShows m.now shows.now }
-    ensures { IfOk result (λ e. CallsHostOn m.now shows.now import memory.now stacks.old (record { replies = replies.old; log = log.old.items }) e stacks.new (record { replies = replies.new; log = log.new.items })) }
+    ensures calls { IfOk result (λ e. CallsHostOn m.now shows.now import memory.now stacks.old (record { replies = replies.old; log = log.old.items }) e stacks.new (record { replies = replies.new; log = log.new.items })) }
+    ensures room { KeepsRoom stacks.old stacks.new }
 {
     let Some(ty) = func_type(m, import as usize) else {
         return Ok(Hosted::Traps(NO_RULE));

@@ -1,5 +1,5 @@
 // Branches and calls that take an operand first (4.4.5.7, 4.4.5.8, 4.4.5.11).
-ghost use Rattle.std.specs.Prelude.{◌≡◌, ◌≤◌, ◌&&◌, length, slice_get, IfOk};
+ghost use Rattle.std.specs.Prelude.{◌≡◌, ◌≤◌, ◌&&◌, length, slice_get, IfOk, IfErr};
 ghost use Rattle.std.specs.Option.{option_to_list};
 ghost use Rattle.zw_wasm.specs.Functions.{func_type};
 ghost use Rattle.zw_wasm.specs.declared.module.Instr.TheVariants as instr;
@@ -7,22 +7,24 @@ ghost use Rattle.zw_wasm.specs.Reduction.{act, label_or, same_func_type};
 ghost use Rattle.zw_wasm.specs.Typing.{same_type, same_types};
 ghost use Rattle.zw_wasm_run.specs.Running.{ActsOnStacks, body_of};
 ghost use Rattle.zw_wasm_run.specs.Stores.{Calls, Executes, entry_of};
+ghost use Rattle.zw_wasm_run.specs.Rooms.{KeepsRoom, Wants, WantsForCall};
 
 use crate::calls::{call, func_type};
-use crate::effect::{Effect, NO_ENTRY, NO_RULE, SIGNATURE, Taken};
 use crate::execute::taken;
+use crate::pause::Taken;
 use crate::stacks::{Stacks, branch};
 use crate::store::Store;
-use crate::words::low;
 use sqlite_items::at;
 use std::alloc::AllocError;
 use zw_wasm::{FuncType, Module, ValType};
+use zw_wasm_words::{Effect, NO_ENTRY, NO_RULE, SIGNATURE, low};
 
 /// A branch where the last operand isn't 0.
 pub fn branch_if(m: &Module, n: u32, end: usize, stacks: &mut Stacks) -> Effect
     requires inside { stacks.old.frame.labels ≤ length stacks.old.labels.items }
     requires end { length (body_of m.now stacks.old.frame.body) ≤ end }
-    ensures { ActsOnStacks m.now (act m.now (instr.BrIf n)) stacks.old result stacks.new }
+    ensures acts { ActsOnStacks m.now (act m.now (instr.BrIf n)) stacks.old result stacks.new }
+    ensures room { KeepsRoom stacks.old stacks.new }
 {
     let Some(word) = stacks.words.pop() else {
         return Effect::Traps(NO_RULE);
@@ -43,7 +45,8 @@ pub fn branch_by(
 ) -> Effect
     requires inside { stacks.old.frame.labels ≤ length stacks.old.labels.items }
     requires end { length (body_of m.now stacks.old.frame.body) ≤ end }
-    ensures { ActsOnStacks m.now (act m.now (instr.BrTable default labels.now)) stacks.old result stacks.new }
+    ensures acts { ActsOnStacks m.now (act m.now (instr.BrTable default labels.now)) stacks.old result stacks.new }
+    ensures room { KeepsRoom stacks.old stacks.new }
 {
     let Some(word) = stacks.words.pop() else {
         return Effect::Traps(NO_RULE);
@@ -64,7 +67,9 @@ fn label_at(labels: &[u32], place: usize, default: u32) -> u32
 
 /// A call of any function. That of an imported one is left to the caller.
 pub fn call_any(m: &Module, func: u32, stacks: &mut Stacks) -> Result<Taken, AllocError>
-    ensures { IfOk result (λ t. Calls m.now func stacks.old t stacks.new) }
+    ensures calls { IfOk result (λ t. Calls m.now func stacks.old t stacks.new) }
+    ensures wants { IfErr result (λ e. WantsForCall m.now func stacks.old) }
+    ensures room { KeepsRoom stacks.old stacks.new }
 {
     if (func as usize) < m.imports.len() {
         return Ok(Taken::Calls(func));
@@ -80,7 +85,9 @@ pub fn call_by(
     shared: &Store,
     stacks: &mut Stacks,
 ) -> Result<Taken, AllocError>
-    ensures { IfOk result (λ t. Executes m.now (instr.CallIndirect ty) shared.now stacks.old t shared.now stacks.new) }
+    ensures executes { IfOk result (λ t. Executes m.now (instr.CallIndirect ty) shared.now stacks.old t shared.now stacks.new) }
+    ensures wants { IfErr result (λ e. Wants m.now (act m.now (instr.CallIndirect ty)) shared.now stacks.old) }
+    ensures room { KeepsRoom stacks.old stacks.new }
 {
     let Some(word) = stacks.words.pop() else {
         return Ok(Taken::Traps(NO_RULE));

@@ -1,13 +1,14 @@
 // A call that runs, with its calls of the host.
-ghost use Rattle.std.specs.Prelude.{IfOk};
+ghost use Rattle.std.specs.Prelude.{IfErr, IfOk};
 ghost use Rattle.zw_wasm_run.specs.Invocation.{IsReady, RunsSo};
 ghost use Rattle.zw_wasm_run.specs.Machines.{AreShows};
+ghost use Rattle.zw_wasm_run.specs.Rooms.{CallWants, KeepsRoom};
 
 use crate::code::Code;
-use crate::effect::Pause;
 use crate::event::Event;
 use crate::host::{Hosted, call_host};
 use crate::machine::Show;
+use crate::pause::Pause;
 use crate::replies::Replies;
 use crate::run::go_on;
 use crate::stacks::Stacks;
@@ -39,7 +40,9 @@ pub fn run(
 ) -> Result<RunEnd, AllocError>
     requires shown { AreShows code.now shows.now }
     requires ready { IsReady code.now shows.now (record { store = store.old; stacks = stacks.old; steps = steps.old; host = record { replies = replies.old; log = log.old.items } }) }
-    ensures { IfOk result (λ e. RunsSo code.now shows.now (record { store = store.old; stacks = stacks.old; steps = steps.old; host = record { replies = replies.old; log = log.old.items } }) e (record { store = store.new; stacks = stacks.new; steps = steps.new; host = record { replies = replies.new; log = log.new.items } })) }
+    ensures runs { IfOk result (λ e. RunsSo code.now shows.now (record { store = store.old; stacks = stacks.old; steps = steps.old; host = record { replies = replies.old; log = log.old.items } }) e (record { store = store.new; stacks = stacks.new; steps = steps.new; host = record { replies = replies.new; log = log.new.items } })) }
+    ensures wants { IfErr result (λ e. CallWants code.now shows.now (record { store = store.old; stacks = stacks.old; steps = steps.old; host = record { replies = replies.old; log = log.old.items } })) }
+    ensures room { KeepsRoom stacks.old stacks.new }
 {
     'calls: loop {
         let import = match go_on(code, store, stacks, steps)? {

@@ -1,11 +1,5 @@
 // What holds of the definitions themselves: the law is the contract of a function that does nothing.
 ghost use Rattle.zw_wasm_run.specs.WorkedCalls.{WorkedCalls};
-ghost use Rattle.zw_wasm_run.specs.WorkedSegments.{WorkedSegments};
-
-/// Which segment is the first that doesn't lie inside its table or memory, worked out by hand.
-pub fn segments_are_worked()
-    ensures { WorkedSegments }
-{}
 
 /// What calls of small functions come to, with the steps that they are given and have left.
 pub fn calls_are_worked()

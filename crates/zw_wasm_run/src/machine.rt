@@ -1,14 +1,17 @@
 // Machines: how they are made, what they are asked, and their calls.
-ghost use Rattle.std.specs.Prelude.{◌≡◌, ◌+◌, ◌*◌, ◌^◌, ◌<◌, List, length, map, replicate, Option, Some, None, true, IfErr, IfOk, MatchOption, MatchResult, OnOk};
+ghost use Rattle.std.specs.Prelude.{◌≡◌, ◌+◌, ◌*◌, ◌^◌, ◌<◌, ◌≤◌, List, length, map, replicate, Option, Some, None, true, IfErr, IfOk, MatchOption, MatchResult, OnOk};
 ghost use Rattle.zw_wasm.specs.declared.module.DataSegment.{DataSegment};
 ghost use Rattle.zw_wasm.specs.declared.module.Element.{Element};
 ghost use Rattle.zw_wasm.specs.Functions.{func_type};
 ghost use Rattle.zw_wasm.specs.ModuleMachine.{export_in, exported_global, first_sizes, first_store, first_values, param_types};
 ghost use Rattle.zw_wasm.specs.Reduction.{page_size};
-ghost use Rattle.zw_wasm_run.specs.MachineCalls.{CallEnds, HasRoom, SameButStacks, SameCode};
+ghost use Rattle.zw_wasm_reach.specs.Counts as counts;
+ghost use Rattle.zw_wasm_words.specs.Segments.{first_outside};
+ghost use Rattle.zw_wasm_run.specs.MachineCalls.{CallEnds, SameButStacks, SameCode};
 ghost use Rattle.zw_wasm_run.specs.Machines.{ArePanicState, Begins, IsOutOfRange, NoPanicState, Remembers, Tabled, bytes_of_memory, store_of};
 ghost use Rattle.zw_wasm_run.specs.Premises.{type_of};
-ghost use Rattle.zw_wasm_run.specs.Segments.{first_outside};
+ghost use Rattle.zw_wasm_run.specs.Reserves.{HasRoom, IsOutside, KeepsReserve};
+ghost use Rattle.zw_wasm_run.specs.Rooms.{calling};
 ghost use Rattle.zw_wasm_run.specs.Shows.{AreShows, IsExported};
 
 use crate::calls::func_type;
@@ -18,7 +21,6 @@ use crate::event::{Event, Outcome};
 use crate::function::call_function;
 use crate::held::Machine;
 use crate::replies::Replies;
-use crate::segments::{place_datas, place_elements};
 use crate::store::Store;
 use sqlite_items::Items;
 use std::alloc::{AllocError, Global};
@@ -27,6 +29,8 @@ use zw_wasm::{
     ExportDef, FuncType, Limits, Module, Num, exported_function, exported_global, first_globals,
 };
 use zw_wasm_check::Checked;
+use zw_wasm_reach::deepest;
+use zw_wasm_words::{place_datas, place_elements};
 
 /// Of an imported function, by its number, this parameter is a pointer and the next one the length of the bytes that are
 /// shown there.
@@ -57,6 +61,11 @@ impl From<AllocError> for NewErr {
 }
 
 impl fmt::Display for NewErr {
+    ghost use Rattle.std.specs.Prelude.{Some};
+    ghost use Rattle.zw_wasm_run.specs.Texts.{text_of};
+
+    ghost output = { λ e. Some (text_of e) };
+
     fn fmt<W: fmt::Write>(&self, f: &mut fmt::Formatter<W>) -> fmt::Result {
         match self {
             NewErr::OutOfRangeSegment(segment) => write!(f, "segment {segment} out of range"),
@@ -122,16 +131,23 @@ impl Machine {
         }
     }
 
-    /// Makes room for so many frames that are active, and for so many operands and locals over all frames.
+    /// Makes room for so many frames that are active, and for so many operands and locals over all frames. Memory doesn't run out in a call that
+    /// stays within it, calls no function of the host, and leaves the memory as long as it is. No call makes the room less, and none is
+    /// wanting where it was made before.
     pub fn reserve(&mut self, frames: u32, values: u32) -> Result<(), AllocError>
         ensures room { OnOk result (HasRoom self.new frames values) }
+        ensures wants { IfErr result (λ e. HasRoom self.old frames values → ⊥) }
+        ensures reserved { KeepsReserve self.old self.new }
         ensures kept { SameButStacks self.old self.new }
     {
+        let labels = most_labels(self.code.module(), frames)?;
         let stacks = &mut self.stacks;
         stacks.frames.clear();
+        stacks.labels.clear();
         stacks.words.clear();
         stacks.frames.reserve(frames as usize)?;
-        stacks.words.reserve(values as usize)
+        stacks.labels.reserve(labels + 1)?;
+        stacks.words.reserve(values as usize + 1)
     }
 
     /// Calls an exported function, by its number, with arguments of its types. `steps` falls by one for each instruction, and no call
@@ -149,6 +165,8 @@ impl Machine {
         requires typed { map type_of args.now ≡ param_types (func_type self.old.code export) }
         ensures ends { IfOk result (λ end. CallEnds self.old.over export args.now (record { machine = self.old; host = record { replies = replies.old; log = log.old.items }; steps = steps.old }) end (record { machine = self.new; host = record { replies = replies.new; log = log.new.items }; steps = steps.new })) }
         ensures wants_memory { IfErr result (λ e. self.new.over ≡ true) }
+        ensures outside { IfErr result (λ e. IsOutside self.old export args.now (calling (store_of self.old) replies.old) steps.old) }
+        ensures reserved { KeepsReserve self.old self.new }
         ensures kept { SameCode self.old self.new }
     {
         if self.over {
@@ -194,6 +212,18 @@ impl Machine {
         }
         let end = at as usize + len as usize;
         self.store.memory.get(at as usize..end)
+    }
+}
+
+/// How many labels there are at most in so many frames. Memory is wanting where a `usize` couldn't hold one more.
+fn most_labels(m: &Module, frames: u32) -> Result<usize, AllocError>
+    ensures most { IfOk result (λ labels. labels ≡ frames * counts.deepest m.now) }
+    ensures bound { IfOk result (λ labels. labels < usize.MAX) }
+    ensures wants { IfErr result (λ e. usize.MAX ≤ frames * counts.deepest m.now) }
+{
+    match (frames as usize).checked_mul(deepest(m)) {
+        Some(labels) if labels < usize::MAX => Ok(labels),
+        _ => Err(AllocError),
     }
 }
 

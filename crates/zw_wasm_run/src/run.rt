@@ -1,9 +1,10 @@
 // The instructions of a call, one after another.
-ghost use Rattle.std.specs.Prelude.{IfOk};
+ghost use Rattle.std.specs.Prelude.{IfErr, IfOk};
 ghost use Rattle.zw_wasm_run.specs.Loops.{IsSound, Pauses};
+ghost use Rattle.zw_wasm_run.specs.Rooms.{KeepsRoom, RunWants};
 
 use crate::code::Code;
-use crate::effect::{Pause, Taken};
+use crate::pause::{Pause, Taken};
 use crate::settle::settle;
 use crate::stacks::Stacks;
 use crate::step::step;
@@ -19,7 +20,9 @@ pub fn go_on(
     steps: &mut u64,
 ) -> Result<Pause, AllocError>
     requires { IsSound code.now store.old stacks.old steps.old }
-    ensures { IfOk result (λ p. Pauses code.now store.old stacks.old steps.old p store.new stacks.new steps.new) }
+    ensures pauses { IfOk result (λ p. Pauses code.now store.old stacks.old steps.old p store.new stacks.new steps.new) }
+    ensures wants { IfErr result (λ e. RunWants code.now store.old stacks.old steps.old) }
+    ensures room { KeepsRoom stacks.old stacks.new }
 {
     'steps: loop {
         let Some(instr) = settle(code, stacks) else {

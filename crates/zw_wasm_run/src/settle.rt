@@ -1,6 +1,7 @@
 // Labels and frames that have come to their ends (4.4.6.2, 4.4.7.2): an end takes no step.
 ghost use Rattle.std.specs.Prelude.{◌≡◌, ◌+◌, ◌<◌, true, false, drop, length, Some, MatchOption, slice_get};
 ghost use Rattle.zw_wasm.specs.Structure.{Ends, code_of};
+ghost use Rattle.zw_wasm_run.specs.Rooms.{HoldsFewer, KeepsRoom};
 ghost use Rattle.zw_wasm_run.specs.Running.{EndsFrame};
 ghost use Rattle.zw_wasm_run.specs.Settling.{IsAtEnd, IsReached, IsStanding, closes};
 
@@ -13,7 +14,9 @@ use zw_wasm::{Instr, Module};
 /// words are its results.
 pub fn settle<'a>(code: &'a Code, stacks: &mut Stacks) -> Option<&'a Instr>
     requires { IsStanding code.now stacks.old }
-    ensures { MatchOption result (IsAtEnd code.now stacks.old stacks.new.words.items) (λ i. IsReached code.now stacks.old i.now stacks.new) }
+    ensures due { MatchOption result (IsAtEnd code.now stacks.old stacks.new.words.items) (λ i. IsReached code.now stacks.old i.now stacks.new) }
+    ensures room { KeepsRoom stacks.old stacks.new }
+    ensures fewer { HoldsFewer stacks.old stacks.new }
 {
     'ends: loop {
         if let Some(instr) = due(code.instrs(stacks.frame.body), stacks.frame.at) {
@@ -44,6 +47,8 @@ fn end_one(m: &Module, stacks: &mut Stacks) -> bool
     requires { IsStanding m.now stacks.old }
     ensures ends { EndsFrame m.now stacks.old result stacks.new }
     ensures fewer { result ≡ true → length stacks.new.labels.items + length stacks.new.frames.items < length stacks.old.labels.items + length stacks.old.frames.items }
+    ensures room { KeepsRoom stacks.old stacks.new }
+    ensures holds { HoldsFewer stacks.old stacks.new }
 {
     if stacks.frame.labels < stacks.labels.len() {
         end_label(stacks);

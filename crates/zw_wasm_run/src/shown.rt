@@ -2,16 +2,16 @@
 ghost use Rattle.std.specs.Prelude.{◌≡◌, ◌+◌, ◌<◌, length, Some, IfOk, MatchOption, None};
 ghost use Rattle.zw_wasm.specs.Structure.{number};
 ghost use Rattle.zw_wasm.specs.Signature.{bytes_at};
+ghost use Rattle.zw_wasm_words.specs.Words.{bits_in};
 ghost use Rattle.zw_wasm_run.specs.Calls.{is_shown};
 ghost use Rattle.zw_wasm_run.specs.Hosting.{ArePairs, IsEventOf, is_part, numbers_held, numbers_in, ranges_in};
-ghost use Rattle.zw_wasm_run.specs.Words.{bits_in};
 
 use crate::event::Event;
 use crate::machine::Show;
-use crate::words::low;
 use sqlite_items::Items;
 use std::alloc::{AllocError, Global};
 use zw_wasm::{Num, ValType};
+use zw_wasm_words::low;
 
 /// The event of a call of an import with arguments of these words, or none where bytes that it shows lie outside the memory.
 pub fn event_of(

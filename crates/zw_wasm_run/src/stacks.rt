@@ -2,12 +2,12 @@
 ghost use Rattle.std.specs.Prelude.{◌≡◌, ◌+◌, ◌-◌, ◌<◌, ◌≤◌, true, length};
 ghost use Rattle.zw_wasm.specs.declared.module.Module.{Module};
 ghost use Rattle.zw_wasm.specs.Reduction.{branched, returned};
-ghost use Rattle.zw_wasm_run.specs.Frames.{LocalsFit};
+ghost use Rattle.zw_wasm_words.specs.Frames.{LocalsFit};
 ghost use Rattle.zw_wasm_run.specs.Running.{ActsOnStacks, EndsFrame, EndsLabel, body_of};
+ghost use Rattle.zw_wasm_run.specs.Rooms.{HoldsFewer, KeepsRoom};
 
-use crate::effect::{Effect, NO_RULE};
-use crate::frame::{Frame, Label};
-use crate::labels::{keep_results, leave, unwind};
+use zw_wasm_words::labels::{keep_results, leave, unwind};
+use zw_wasm_words::{Effect, Frame, Label, NO_RULE};
 
 /// The frame that runs, those that wait for it, the innermost last, and the labels and the words of all of them.
 #[derive(Drop)]
@@ -22,7 +22,8 @@ pub struct Stacks {
 /// at this place or before it (4.4.5.6).
 pub fn branch(n: usize, end: usize, stacks: &mut Stacks) -> Effect
     requires inside { stacks.old.frame.labels ≤ length stacks.old.labels.items }
-    ensures { (m : Module) → length (body_of m stacks.old.frame.body) ≤ end → ActsOnStacks m (branched n) stacks.old result stacks.new }
+    ensures acts { (m : Module) → length (body_of m stacks.old.frame.body) ≤ end → ActsOnStacks m (branched n) stacks.old result stacks.new }
+    ensures room { KeepsRoom stacks.old stacks.new }
 {
     let own = stacks.labels.len() - stacks.frame.labels;
     if n < own {
@@ -38,7 +39,8 @@ pub fn branch(n: usize, end: usize, stacks: &mut Stacks) -> Effect
 fn jump(n: usize, stacks: &mut Stacks) -> Effect
     requires inside { stacks.old.frame.labels ≤ length stacks.old.labels.items }
     requires there { n < length stacks.old.labels.items - stacks.old.frame.labels }
-    ensures { (m : Module) → ActsOnStacks m (branched n) stacks.old result stacks.new }
+    ensures acts { (m : Module) → ActsOnStacks m (branched n) stacks.old result stacks.new }
+    ensures room { KeepsRoom stacks.old stacks.new }
 {
     let place = stacks.labels.len() - 1 - n;
     let label = stacks.labels[place];
@@ -54,7 +56,8 @@ fn jump(n: usize, stacks: &mut Stacks) -> Effect
 /// A return goes on at the end of its frame, with its results, where the code ends at this place or before it (4.4.5.9).
 pub fn give_back(end: usize, stacks: &mut Stacks) -> Effect
     requires inside { stacks.old.frame.labels ≤ length stacks.old.labels.items }
-    ensures { (m : Module) → length (body_of m stacks.old.frame.body) ≤ end → ActsOnStacks m returned stacks.old result stacks.new }
+    ensures acts { (m : Module) → length (body_of m stacks.old.frame.body) ≤ end → ActsOnStacks m returned stacks.old result stacks.new }
+    ensures room { KeepsRoom stacks.old stacks.new }
 {
     let frame = stacks.frame;
     if stacks.words.len() < frame.arity || stacks.words.len() - frame.arity < frame.operands {
@@ -72,6 +75,8 @@ pub fn end_label(stacks: &mut Stacks)
     ensures ends { (m : Module) → EndsLabel m stacks.old stacks.new }
     ensures fewer { length stacks.new.labels.items + 1 ≡ length stacks.old.labels.items }
     ensures kept { stacks.new.frames.items ≡ stacks.old.frames.items }
+    ensures room { KeepsRoom stacks.old stacks.new }
+    ensures holds { HoldsFewer stacks.old stacks.new }
 {
     if let Some(label) = stacks.labels.pop() {
         stacks.frame.at = label.follows;
@@ -86,6 +91,8 @@ pub fn end_frame(stacks: &mut Stacks) -> bool
     ensures ends { (m : Module) → EndsFrame m stacks.old result stacks.new }
     ensures fewer { result ≡ true → length stacks.new.frames.items + 1 ≡ length stacks.old.frames.items }
     ensures kept { stacks.new.labels.items ≡ stacks.old.labels.items }
+    ensures room { KeepsRoom stacks.old stacks.new }
+    ensures holds { HoldsFewer stacks.old stacks.new }
 {
     let frame = stacks.frame;
     leave(&frame, &mut stacks.words);

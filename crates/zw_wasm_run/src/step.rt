@@ -1,17 +1,19 @@
 // One step of a call.
-ghost use Rattle.std.specs.Prelude.{◌≡◌, true, IfOk};
+ghost use Rattle.std.specs.Prelude.{◌≡◌, true, IfErr, IfOk};
 ghost use Rattle.zw_wasm.specs.Structure.{is_plain};
+ghost use Rattle.zw_wasm_run.specs.Rooms.{KeepsRoom, StepWants};
 ghost use Rattle.zw_wasm_run.specs.Settling.{IsAt, IsStanding};
 ghost use Rattle.zw_wasm_run.specs.Stores.{Steps};
 
 use crate::begin::{block, choice, repeat};
 use crate::code::Code;
-use crate::effect::{NO_RULE, Taken};
 use crate::execute::{execute, taken};
+use crate::pause::Taken;
 use crate::stacks::Stacks;
 use crate::store::Store;
 use std::alloc::AllocError;
 use zw_wasm::Instr;
+use zw_wasm_words::NO_RULE;
 
 /// Takes the instruction that is due.
 pub fn step(
@@ -22,7 +24,9 @@ pub fn step(
 ) -> Result<Taken, AllocError>
     requires standing { IsStanding code.now stacks.old }
     requires due { IsAt code.now stacks.old instr.now }
-    ensures { IfOk result (λ t. Steps code.now store.old stacks.old t store.new stacks.new) }
+    ensures takes { IfOk result (λ t. Steps code.now store.old stacks.old t store.new stacks.new) }
+    ensures wants { IfErr result (λ e. StepWants code.now store.old stacks.old) }
+    ensures room { KeepsRoom stacks.old stacks.new }
 {
     let body = stacks.frame.body;
     match instr {
@@ -53,7 +57,9 @@ fn single(
     requires standing { IsStanding code.now stacks.old }
     requires due { IsAt code.now stacks.old instr.now }
     requires plain { is_plain instr.now ≡ true }
-    ensures { IfOk result (λ t. Steps code.now store.old stacks.old t store.new stacks.new) }
+    ensures takes { IfOk result (λ t. Steps code.now store.old stacks.old t store.new stacks.new) }
+    ensures wants { IfErr result (λ e. StepWants code.now store.old stacks.old) }
+    ensures room { KeepsRoom stacks.old stacks.new }
 {
     let end = code.instrs(stacks.frame.body).len();
     stacks.frame.at += 1;

@@ -1,4 +1,4 @@
-use Rattle.zw_drive.proofs.ExecLemmas.{idle, session_written, session_cut}
+use Rattle.zw_drive.proofs.ExecLemmas.{idle}
 use Rattle.zw_drive.proofs.exec.run.Goals as goal
 
 pub run_session-ended-requires-clause-idle : goal.run_session-ended-requires-clause-idle

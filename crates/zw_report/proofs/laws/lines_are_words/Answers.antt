@@ -4,7 +4,7 @@ use Rattle.zw_report.specs.declared.end.End.{End}
 use Rattle.zw_report.specs.declared.end.End.TheVariants.{Result, Panic, WantsReply, StepsOut, Trap}
 use Rattle.zw_report.specs.Lines.{HasLine, end_line, message_of}
 use Rattle.zw_report.specs.Words.{IsLine}
-use Rattle.zw_report.proofs.LineWords.{call_is_line, event_is_line, panic_is_line, result_is_line}
+use Rattle.zw_report.proofs.LineWords.{call_is_line, event_is_line, panic_is_line, result_is_line, stop_is_line}
 use Rattle.zw_report.proofs.laws.lines_are_words.Goals as goal
 
 end_is_line : (end : End) → HasLine end → IsBytes (message_of end) → IsLine (end_line end)
@@ -22,3 +22,6 @@ returns-clause-events c = event_is_line
 
 pub returns-clause-ends : goal.returns-clause-ends
 returns-clause-ends c = end_is_line
+
+pub returns-clause-stops : goal.returns-clause-stops
+returns-clause-stops c = stop_is_line

@@ -2,13 +2,13 @@ use Rattle.std.proofs.Common.{◌≡◌, ◌+◌, List, [], ◌∷◌, ◌++◌,
 use Rattle.std.specs.Option.{option_to_list}
 use Rattle.zw_wasm.specs.declared.module.Instr.{Instr}
 use Rattle.zw_wasm.specs.declared.module.Instr.TheVariants as instr
-use Rattle.zw_wasm_run.specs.declared.frame.Label.{Label}
+use Rattle.zw_wasm_words.specs.declared.frame.Label.{Label}
 use Rattle.zw_wasm_run.specs.Control.{AreArms}
 use Rattle.zw_wasm_run.proofs.Stepping.{choice_steps, choice_traps, here_at, label_as}
 use Rattle.zw_wasm_run.proofs.begin.choice.Goals as goal
 
-pub returns-in_default : goal.returns-in_default
-returns-in_default c m same =
+pub returns-in_default-clause-takes : goal.returns-in_default-clause-takes
+returns-in_default-clause-takes c m same =
     let old = c.args.stacks.now in
     let is = c.args.instrs.now in
     let at = old.frame.at in
@@ -16,8 +16,8 @@ returns-in_default c m same =
     (subst (λ (x : List Instr). drop at x ≡ instr.If c.args.ty ∷ drop (at + 1) x) same (here_at at is (instr.If c.args.ty) c.requires.here))
     (subst (λ x. AreArms x at c.arms_at-arms.result) same c.arms_at-arms.ensures) (search rules)
 
-pub returns : goal.returns
-returns c m same =
+pub returns-clause-takes : goal.returns-clause-takes
+returns-clause-takes c m same =
     let old = c.args.stacks.now in
     let is = c.args.instrs.now in
     let at = old.frame.at in

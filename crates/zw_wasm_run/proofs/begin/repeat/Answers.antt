@@ -2,15 +2,15 @@ use Rattle.std.proofs.Common.{◌≡◌, ◌+◌, ◌≤◌, List, [], ◌∷◌
 use Rattle.std.specs.Prelude.{slice_index_or}
 use Rattle.zw_wasm.specs.declared.module.Instr.{Instr}
 use Rattle.zw_wasm.specs.declared.module.Instr.TheVariants as instr
+use Rattle.zw_wasm_words.specs.declared.frame.Label.{Label}
 use Rattle.zw_wasm_run.specs.declared.control.SequenceEnd.{SequenceEnd}
-use Rattle.zw_wasm_run.specs.declared.frame.Label.{Label}
 use Rattle.zw_wasm_run.specs.Control.{IsEnd}
 use Rattle.zw_wasm_run.proofs.AllFrames.{label_place}
 use Rattle.zw_wasm_run.proofs.Stepping.{loop_steps, here_at, label_as}
 use Rattle.zw_wasm_run.proofs.begin.repeat.Goals as goal
 
-pub returns : goal.returns
-returns c m same =
+pub returns-clause-takes : goal.returns-clause-takes
+returns-clause-takes c m same =
     let old = c.args.stacks.now in
     let is = c.args.instrs.now in
     let at = old.frame.at in

@@ -14,14 +14,14 @@ words_read s words a b n value len count =
 words_left : (new words : List ℕ) (a b n : ℕ) → new ≡ take (a - b) words → a ≡ length words → b ≡ n → new ≡ take (length words - n) words
 words_left new words a b n is len count = is ∙ ap (λ k. take (k - b) words) len ∙ ap (λ k. take (length words - k) words) count
 
-pub returns-then-len : goal.returns-then-len
-returns-then-len c =
+pub returns-then-len-clause-calls : goal.returns-then-len-clause-calls
+returns-then-len-clause-calls c =
     let is : func_type c.args.m.now c.args.import ≡ Some c.in-Some.ty.now = search rules in
     let short : length c.args.stacks.now.words.items < length c.in-Some.ty.now.params = search rules in
     host_short c.args.m.now c.args.shows.now c.args.import c.args.memory.now c.in-Some.ty.now c.args.stacks.now _ _ _ is c.requires.imported short refl
 
-pub returns-in_ok-push-in-Goes : goal.returns-in_ok-push-in-Goes
-returns-in_ok-push-in-Goes c =
+pub returns-in_ok-push-in-Goes-clause-calls : goal.returns-in_ok-push-in-Goes-clause-calls
+returns-in_ok-push-in-Goes-clause-calls c =
     let t = c.in-Some.ty.now in
     let words = c.args.stacks.now.words.items in
     let is : func_type c.args.m.now c.args.import ≡ Some t = search rules in
@@ -36,8 +36,8 @@ returns-in_ok-push-in-Goes c =
     (subst (λ ws. AsksHost c.args.m.now c.args.shows.now c.args.import t c.args.memory.now (numbers_held t.params ws) (record { replies = c.args.replies.now; log = c.args.log.now.items }) c.in_ok-reply.field-0 (record { replies = c.ask_host.new.replies; log = c.ask_host.new.log.items })) read c.in_ok-reply.ensures))
     refl refl refl (c.in_ok-push-in-Goes.ensures.items ∙ ap (λ ws. ws ++ c.in-Some-reply.reply ∷ []) left)
 
-pub returns-in_default-reply : goal.returns-in_default-reply
-returns-in_default-reply c =
+pub returns-in_default-reply-clause-calls : goal.returns-in_default-reply-clause-calls
+returns-in_default-reply-clause-calls c =
     let t = c.in-Some.ty.now in
     let words = c.args.stacks.now.words.items in
     let is : func_type c.args.m.now c.args.import ≡ Some t = search rules in
@@ -52,8 +52,8 @@ returns-in_default-reply c =
     (subst (λ ws. AsksHost c.args.m.now c.args.shows.now c.args.import t c.args.memory.now (numbers_held t.params ws) (record { replies = c.args.replies.now; log = c.args.log.now.items }) c.in_ok-reply.field-0 (record { replies = c.ask_host.new.replies; log = c.ask_host.new.log.items })) read c.in_ok-reply.ensures))
     refl refl refl (left ∙ append_nothing (take (length words - length t.params) words))
 
-pub returns-in-Outside : goal.returns-in-Outside
-returns-in-Outside c =
+pub returns-in-Outside-clause-calls : goal.returns-in-Outside-clause-calls
+returns-in-Outside-clause-calls c =
     let t = c.in-Some.ty.now in
     let words = c.args.stacks.now.words.items in
     let is : func_type c.args.m.now c.args.import ≡ Some t = search rules in
@@ -66,8 +66,8 @@ returns-in-Outside c =
     (subst (λ ws. AsksHost c.args.m.now c.args.shows.now c.args.import t c.args.memory.now (numbers_held t.params ws) (record { replies = c.args.replies.now; log = c.args.log.now.items }) c.in_ok-reply.field-0 (record { replies = c.ask_host.new.replies; log = c.ask_host.new.log.items })) read c.in_ok-reply.ensures))
     refl refl refl tt
 
-pub returns-in-NoReply : goal.returns-in-NoReply
-returns-in-NoReply c =
+pub returns-in-NoReply-clause-calls : goal.returns-in-NoReply-clause-calls
+returns-in-NoReply-clause-calls c =
     let t = c.in-Some.ty.now in
     let words = c.args.stacks.now.words.items in
     let is : func_type c.args.m.now c.args.import ≡ Some t = search rules in

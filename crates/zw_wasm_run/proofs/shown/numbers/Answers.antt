@@ -2,8 +2,8 @@ use Rattle.std.proofs.Common.{◌≡◌, ◌+◌, ◌++◌, [], ◌∷◌, get_o
 use Rattle.std.proofs.lemmas.Option.{slice_get-get_or}
 use Rattle.zw_wasm.specs.declared.module.ValType.TheVariants as ty
 use Rattle.zw_wasm.specs.Structure.{number}
+use Rattle.zw_wasm_words.specs.Words.{bits_in}
 use Rattle.zw_wasm_run.specs.Hosting.{is_part, numbers_held}
-use Rattle.zw_wasm_run.specs.Words.{bits_in}
 use Rattle.zw_wasm_run.proofs.ShownParts.{NumbersSoFar, held_length, numbers_end, numbers_more, numbers_skip}
 use Rattle.zw_wasm_run.proofs.shown.numbers.Goals as goal
 use Rattle.zw_wasm_run.proofs.shown.numbers.Goals.{then-not-is_part+in_ok-push, else-not-is_part}

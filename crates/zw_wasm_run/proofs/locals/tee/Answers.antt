@@ -1,8 +1,0 @@
-use Rattle.std.proofs.Common.{◌-◌, length, take, refl, rules}
-use Rattle.zw_wasm_run.proofs.LocalRuns.{tees}
-use Rattle.zw_wasm_run.proofs.locals.tee.Goals as goal
-
-pub returns : goal.returns
-returns c =
-    let old = c.args.stack.now.items in
-    tees c.args.frame.now c.args.n c.in-Some.word old (take (length old - 1) old) _ (search rules) refl

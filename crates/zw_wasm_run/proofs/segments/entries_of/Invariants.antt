@@ -1,5 +1,0 @@
-use Rattle.std.proofs.Common.{◌≡◌, take, map, Some}
-use Rattle.zw_wasm_run.proofs.segments.entries_of.Given as goal
-
-abbrev pub invariant-loop-func : goal.invariant-loop-func
-invariant-loop-func l = l.entries ≡ map (λ f. Some f) (take l.func-index l.funcs)

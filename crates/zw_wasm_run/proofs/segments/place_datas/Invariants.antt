@@ -1,5 +1,0 @@
-use Rattle.zw_wasm_run.proofs.Placing.{DatasPlaced}
-use Rattle.zw_wasm_run.proofs.segments.place_datas.Given as goal
-
-abbrev pub invariant-loop-number : goal.invariant-loop-number
-invariant-loop-number l = DatasPlaced l.globals l.segments l.initial.memory l.memory l.number

@@ -1,0 +1,10 @@
+pub mod Answers
+pub mod Words
+pub mod FullLists
+pub mod Memory
+pub mod Operands
+pub mod Growths
+pub mod Kinds
+pub mod Frames
+pub mod Segments
+pub mod WorkedSegments

@@ -1,0 +1,29 @@
+//! What one instruction does to words: numbers as words of 64 bits, the operators on them, the words of locals and globals, and the
+//! bytes of a memory.
+#![tactic(auto)]
+
+pub mod accesses;
+mod effect;
+mod enter;
+mod fault;
+mod frame;
+pub mod globals;
+pub mod labels;
+mod laws;
+pub mod locals;
+mod memory;
+mod narrow;
+mod operands;
+pub mod plain;
+mod segments;
+mod wide;
+mod words;
+
+pub use effect::{
+    BOUNDS, Effect, FRAMES, NO_ENTRY, NO_RULE, OVERFLOW, SIGNATURE, UNREACHABLE, ZERO_DIVISOR,
+};
+pub use enter::push_locals;
+pub use frame::{Frame, Label};
+pub use laws::segments_are_worked;
+pub use segments::{place_datas, place_elements};
+pub use words::low;
