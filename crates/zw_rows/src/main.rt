@@ -2,23 +2,12 @@
 //! was wanted. The head of the table says how a row is written.
 #![tactic(auto)]
 
-mod cases;
-mod fields;
 mod kinds;
-mod machines;
-mod mistake;
-mod pieces;
-mod report;
-mod table;
-mod words;
 
-use fields::{Field, fields_of};
-use mistake::Mistake;
-use report::Report;
 use std::alloc::Global;
 use std::io;
 use std::process::ExitCode;
-use table::{Row, rows_of};
+use zw_rows_base::{Field, Mistake, Report, Row, fields_of, rows_of};
 
 fn main(rt: HostRuntime) -> ExitCode {
     match run(&rt) {

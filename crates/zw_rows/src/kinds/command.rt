@@ -1,13 +1,9 @@
 // Rows of the whole call, over objects in memory: `zig`, and `build` and `stops` for the file `a.zig` alone.
-use crate::cases::{Case, case_of};
-use crate::fields::Field;
-use crate::mistake::{Mistake, Problem};
-use crate::report::Report;
-use crate::words::{natural, smalls, word, words};
 use std::alloc::Global;
 use zw_base::{Oom, Word};
 use zw_drive::zig;
 use zw_outside::{MemSink, MemSource, MemTree};
+use zw_rows_base::{Case, Field, Mistake, Problem, Report, case_of, natural, smalls, word, words};
 
 /// A file of the tree.
 #[derive(Drop)]

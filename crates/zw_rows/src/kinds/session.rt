@@ -1,15 +1,12 @@
-// Rows of sessions: the calls of exported functions of a module that a text is built to, run one after another by the machine.
-// The module is read from the bytes that the whole call writes for the text.
-use crate::fields::Field;
-use crate::machines::{Host, call, machine_of, panic_cause};
-use crate::mistake::{Mistake, Problem};
-use crate::report::Report;
-use crate::words::{natural, small, smalls};
+// Rows of sessions: the calls of exported functions of a module, run one after another by the machine. The module is read from the bytes
+// that the row has, or that the whole call writes for its text.
 use sqlite_items::Items;
 use std::alloc::Global;
 use zw_base::{Oom, Word};
 use zw_drive::zig;
 use zw_outside::{MemSink, MemSource, MemTree};
+use zw_rows_base::{Field, Line, Mistake, Problem, Report, natural, small, smalls};
+use zw_rows_modules::{Host, call, machine_of, panic_cause};
 use zw_wasm::Num;
 use zw_wasm_run::{Event, Machine, Outcome, Replies};
 
@@ -26,8 +23,14 @@ enum End {
     Gives(u32),
     /// It panicked with this cause, and without a message.
     Panics(u32),
+    /// It came to its end without a number.
+    Ends,
     /// It wants a reply, and none is left.
     WantsReply,
+    /// Another instruction was due, and no step was left.
+    RunsOut,
+    /// A trap with this cause that is no panic.
+    Traps(u8),
     /// There was no call, or an earlier one ended the session.
     NotMade,
     /// It did something else.
@@ -52,8 +55,29 @@ pub fn check_session(
     head: &Field<'_>,
     fields: &[Field<'_>],
 ) -> Result<Report, Mistake> {
+    check_calls(alloc, built(alloc, head)?, fields)
+}
+
+/// `machine NAME` and the bytes of a module: the same, with `steps N` for how many instructions each call behind it may take, `reserve FRAMES VALUES`,
+/// `memory PLACE COUNT = HEX` or `none` for what the memory has there, and the ends `returns`, `runs-out` and `traps N` too.
+pub fn check_machine(
+    alloc: Global,
+    head: &Field<'_>,
+    fields: &[Field<'_>],
+) -> Result<Report, Mistake> {
+    if head.bytes.len() > LIMIT {
+        return Err(head.wrong(Problem::Refused));
+    }
+    match machine_of(alloc, &head.bytes)? {
+        Some(machine) => check_calls(alloc, machine, fields),
+        None => Err(head.wrong(Problem::Refused)),
+    }
+}
+
+/// The calls of a row, made of this machine.
+fn check_calls(alloc: Global, machine: Machine, fields: &[Field<'_>]) -> Result<Report, Mistake> {
     let mut session = Session {
-        machine: built(alloc, head)?,
+        machine,
         host: Host::new(alloc),
         end: End::NotMade,
         sees: String::new(alloc),
@@ -86,6 +110,9 @@ impl Session {
                 write!(self.sees, "{call}, ")?;
             }
             "call" => self.call(alloc, field)?,
+            "steps" => self.host.steps = natural(field.line, field.line.rest)?,
+            "reserve" => self.reserve(alloc, field)?,
+            "memory" => self.compare_bytes(alloc, field, report)?,
             _ => compare_end(alloc, report, field, self.end)?,
         }
         Ok(())
@@ -103,6 +130,38 @@ impl Session {
         }
         let outcome = call(&mut self.machine, name.as_bytes(), &numbers, &mut self.host)?;
         self.end = end_of(&self.machine, outcome);
+        Ok(())
+    }
+
+    /// Makes the room that a line asks for.
+    fn reserve(&mut self, alloc: Global, field: &Field<'_>) -> Result<(), Mistake> {
+        let room = smalls(alloc, field.line, field.line.rest)?;
+        let [frames, values] = room.as_slice() else {
+            return Err(field.wrong(Problem::MissingWord));
+        };
+        self.machine.reserve(*frames, *values)?;
+        Ok(())
+    }
+
+    /// Compares bytes of the memory with those of a line.
+    fn compare_bytes(
+        &self,
+        alloc: Global,
+        field: &Field<'_>,
+        report: &mut Report,
+    ) -> Result<(), Mistake> {
+        let Some((place, wanted)) = field.line.rest.split_once(" = ") else {
+            return Err(field.wrong(Problem::MissingWord));
+        };
+        let place = smalls(alloc, field.line, place)?;
+        let [at, count] = place.as_slice() else {
+            return Err(field.wrong(Problem::MissingWord));
+        };
+        let came = match self.machine.bytes(*at, *count) {
+            Some(bytes) => hex::encode(alloc, bytes)?,
+            None => String::from_str(alloc, "none")?,
+        };
+        report.compare("memory", came.as_bytes(), wanted.as_bytes())?;
         Ok(())
     }
 }
@@ -143,9 +202,12 @@ fn end_of(machine: &Machine, outcome: Option<Outcome>) -> End {
         Some(Outcome::Result(Some(Num::I32(n)))) => End::Gives(n),
         Some(Outcome::Trap(UNREACHABLE)) => match panic_cause(machine) {
             Some(cause) => End::Panics(cause),
-            None => End::Otherwise,
+            None => End::Traps(UNREACHABLE),
         },
+        Some(Outcome::Trap(cause)) => End::Traps(cause),
+        Some(Outcome::Result(None)) => End::Ends,
         Some(Outcome::WantsReply) => End::WantsReply,
+        Some(Outcome::StepsOut) => End::RunsOut,
         Some(Outcome::Over) => End::NotMade,
         _ => End::Otherwise,
     }
@@ -162,7 +224,10 @@ fn compare_end(
     let wanted = match line.word {
         "gives" => End::Gives(small(line, line.rest)?),
         "panics" => End::Panics(small(line, line.rest)?),
+        "returns" => End::Ends,
         "wants-reply" => End::WantsReply,
+        "runs-out" => End::RunsOut,
+        "traps" => End::Traps(cause_of(line)?),
         "not-made" => End::NotMade,
         _ => return Err(field.wrong(Problem::UnknownWord)),
     };
@@ -170,6 +235,14 @@ fn compare_end(
     let wanted = format!(in alloc; "{wanted:?}")?;
     report.compare("call", came.as_bytes(), wanted.as_bytes())?;
     Ok(())
+}
+
+/// The cause of a trap that a line tells.
+fn cause_of(line: Line<'_>) -> Result<u8, Mistake> {
+    match u8::try_from(small(line, line.rest)?) {
+        Ok(cause) => Ok(cause),
+        Err(_) => Err(Mistake::Wrong(line.number, Problem::BadNumber)),
+    }
 }
 
 /// The calls that the host saw, as a row has them.

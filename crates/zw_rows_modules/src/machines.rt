@@ -10,13 +10,15 @@ use zw_wasm_check::{CheckErr, check};
 use zw_wasm_read::{ReadErr, read};
 use zw_wasm_run::{Event, Machine, NewErr, Outcome, Replies};
 
-/// More instructions than any call of a row takes.
+/// More instructions than any call of a row takes that doesn't say how many it may take.
 const BOUND: u64 = 1_000_000;
 
-/// A host: what it answers to calls that want a result, and the calls that it saw, in order.
+/// A host: what it answers to calls that want a result, how many instructions each call of it may take, and the calls that it saw, in
+/// order.
 #[derive(Drop)]
 pub struct Host {
     pub replies: Replies,
+    pub steps: u64,
     pub seen: Vec<Event>,
 }
 
@@ -25,6 +27,7 @@ impl Host {
     pub fn new(alloc: Global) -> Host {
         Host {
             replies: Replies::new(Items::new(alloc)),
+            steps: BOUND,
             seen: Vec::new(alloc),
         }
     }
@@ -68,7 +71,7 @@ pub fn call(
     if !are_of(args, machine.export_type(export).params.as_slice()) {
         return Ok(None);
     }
-    let mut steps = BOUND;
+    let mut steps = host.steps;
     let end = machine.call(export, args, &mut host.replies, &mut steps, &mut host.seen)?;
     Ok(Some(end))
 }

@@ -1,11 +1,8 @@
 // Rows of an input in memory, piece by piece.
-use crate::fields::Field;
-use crate::mistake::{Mistake, Problem};
-use crate::report::Report;
-use crate::words::{small, smalls};
 use std::alloc::Global;
 use zw_base::Source;
 use zw_outside::MemSource;
+use zw_rows_base::{Field, Mistake, Problem, Report, small, smalls};
 
 /// `source NAME` and its bytes: `failing-reads N..` begins anew, with these reads failing, and lines `read N = HEX`, `read N = none` or
 /// `read N = failed` are the reads into a buffer of N bytes, one after another.

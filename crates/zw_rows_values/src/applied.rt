@@ -1,13 +1,10 @@
 // Rows of operators and builtins on known values.
-use crate::fields::Field;
-use crate::kinds::coercions::scalar;
-use crate::kinds::types::known_type;
-use crate::mistake::{Mistake, Problem};
-use crate::report::Report;
-use crate::table::Line;
+use crate::coercions::scalar;
+use crate::types::known_type;
 use std::alloc::Global;
 use zw_num::op;
 use zw_ops::{Cause, apply, is_applicable};
+use zw_rows_base::{Field, Line, Mistake, Problem, Report};
 use zw_types::{TypeId, Types, Value};
 
 /// The operators and builtins by their names.

@@ -1,11 +1,7 @@
 // Rows of tokens: those of a text, the tables of keywords and signs, and names of types.
-use crate::cases::case_of;
-use crate::fields::Field;
-use crate::mistake::{Mistake, Problem};
-use crate::report::Report;
-use crate::words::{small, words};
 use std::alloc::Global;
 use zw_base::{Oom, Refused, Stop, StopKind};
+use zw_rows_base::{Field, Mistake, Problem, Report, case_of, small, words};
 use zw_token::{KEYWORDS, SIGNS, Token, TokenKind, is_primitive_name, is_refused_name, tokens};
 
 /// The greatest number of bytes in a text that has tokens.

@@ -1,10 +1,7 @@
 // Rows of numbers as words of the command line spell them.
-use crate::fields::Field;
-use crate::mistake::{Mistake, Problem};
-use crate::report::Report;
-use crate::words::unescaped;
 use std::alloc::Global;
 use zw_base::read_number;
+use zw_rows_base::{Field, Mistake, Problem, Report, unescaped};
 
 /// `decimals NAME`: lines `of TEXT`, a tab and the number that the text spells, or `none`. The text has escapes.
 pub fn check_decimals(alloc: Global, fields: &[Field<'_>]) -> Result<Report, Mistake> {

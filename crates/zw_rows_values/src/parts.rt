@@ -1,14 +1,10 @@
 // Rows of values and their parts. A value is spelled by words, its parts before it: a number, `true`, `false` and `undefined`, and behind the
 // words of its parts `parts:N` for a struct or an array of N, `some` for an optional and `payload` for an error union that hold one.
-use crate::fields::Field;
-use crate::kinds::coercions::scalar;
-use crate::mistake::{Mistake, Problem};
-use crate::report::Report;
-use crate::table::Line;
-use crate::words::natural;
+use crate::coercions::scalar;
 use sqlite_items::{Boxed, Items};
 use std::alloc::Global;
 use zw_base::Oom;
+use zw_rows_base::{Field, Line, Mistake, Problem, Report, natural};
 use zw_types::Value;
 use zw_values::{read_at, write_at};
 

@@ -1,12 +1,10 @@
 // Rows of the code of operators as the machine runs it.
-use crate::fields::Field;
-use crate::kinds::code::{bytes_of, code_of, held_in, typed_of};
-use crate::kinds::num::type_of;
+use crate::code::{bytes_of, code_of, held_in, typed_of};
 use crate::machines::{Host, call, machine_of, panic_cause};
-use crate::mistake::{Mistake, Problem};
-use crate::report::Report;
 use std::alloc::Global;
 use zw_num::IntTy;
+use zw_rows_base::{Field, Mistake, Problem, Report};
+use zw_rows_values::type_of;
 use zw_wasm::{Num, ValType};
 use zw_wasm_run::{Machine, Outcome};
 

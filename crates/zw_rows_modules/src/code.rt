@@ -1,16 +1,13 @@
 // Rows of the code of operators.
 ghost use Rattle.std.specs.Prelude.{◌≤◌};
 
-use crate::fields::Field;
-use crate::kinds::applied::operator_of;
-use crate::kinds::num::type_of;
-use crate::mistake::{Mistake, Problem};
-use crate::report::Report;
 use sqlite_items::Items;
 use std::alloc::Global;
 use zw_base::Oom;
 use zw_num::IntTy;
 use zw_outside::MemSink;
+use zw_rows_base::{Field, Mistake, Problem, Report};
+use zw_rows_values::{operator_of, type_of};
 use zw_safety::{checked, is_served};
 use zw_wasm::{CodeBody, ExportDef, FuncType, GlobalDef, Instr, Module, ValType, write};
 

@@ -2,13 +2,9 @@
 ghost use Rattle.std.specs.Prelude.{◌≡◌, ◌≤◌, length, IfOk, IfSome};
 ghost use Rattle.zw_token.specs.Tokens.{IsOfKind, Tokens};
 
-use crate::cases::case_of;
-use crate::fields::Field;
-use crate::mistake::{Mistake, Problem};
-use crate::report::Report;
-use crate::words::unescaped;
 use std::alloc::Global;
 use zw_base::{Oom, Refused};
+use zw_rows_base::{Field, Mistake, Problem, Report, case_of, unescaped};
 use zw_token::{Token, TokenKind, char_value, number_value, text_value, tokens};
 
 /// The greatest number of bytes in a text that has tokens.

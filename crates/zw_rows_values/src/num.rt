@@ -2,15 +2,13 @@
 ghost use Rattle.std.specs.Prelude.{◌≡◌, ◌%◌, IfSome, true};
 ghost use Rattle.zw_num.specs.Arithmetic.{IsType, IsSized, IsIn, width};
 
-use crate::fields::Field;
-use crate::mistake::{Mistake, Problem};
-use crate::report::Report;
 use std::alloc::Global;
 use zw_num::{
     IntTy, NumFault, add, add_sat, add_wrap, bit_and, bit_not, bit_or, bit_reverse, bit_xor,
     byte_swap, cast, clz, ctz, div_exact, div_floor, div_trunc, modulo, mul, mul_sat, mul_wrap,
     neg, pop_count, rem, shl, shl_exact, shl_sat, shr, shr_exact, sub, sub_sat, sub_wrap, truncate,
 };
+use zw_rows_base::{Field, Mistake, Problem, Report};
 
 /// What an operator gives, where the row's operands are such as it takes.
 type Given = Option<Result<i128, NumFault>>;

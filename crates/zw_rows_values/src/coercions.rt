@@ -4,15 +4,12 @@ ghost use Rattle.zw_types.specs.TypeTrees.{TypeTree};
 ghost use Rattle.zw_types.specs.Readings.{type_at, form_tree};
 ghost use Rattle.zw_layout.specs.Sizes.{is_simple};
 
-use crate::fields::Field;
-use crate::kinds::types::{are_held, known_type};
-use crate::mistake::{Mistake, Problem};
-use crate::report::Report;
-use crate::table::Line;
+use crate::types::{are_held, known_type};
 use std::alloc::Global;
 use zw_base::Oom;
 use zw_coerce::{Code, coerce, peer};
 use zw_layout::{align, offset, size};
+use zw_rows_base::{Field, Line, Mistake, Problem, Report};
 use zw_types::{TypeForm, TypeId, Types, Value};
 
 /// `coercions NAME`: lines `coerce FROM TO [VALUE] = row N` or `error N`, where the value is known as a number, as `true` or `false`, or as

@@ -1,11 +1,8 @@
 // Rows of trees: the tree of a text, or where the text stops by the grammar.
-use crate::cases::case_of;
-use crate::fields::Field;
-use crate::mistake::{Mistake, Problem};
-use crate::report::Report;
 use std::alloc::Global;
 use zw_base::{Oom, Refused, Stop, StopKind};
 use zw_parse::parse;
+use zw_rows_base::{Field, Mistake, Problem, Report, case_of};
 use zw_token::tokens;
 use zw_tree::Ast;
 

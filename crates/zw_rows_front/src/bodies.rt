@@ -1,11 +1,8 @@
 // Rows of the reading of a struct's members, which may end before the text does.
-use crate::cases::case_of;
-use crate::fields::Field;
-use crate::mistake::{Mistake, Problem};
-use crate::report::Report;
 use std::alloc::Global;
 use zw_base::{Oom, Refused};
 use zw_parse_expr::{Builder, End, body};
+use zw_rows_base::{Field, Mistake, Problem, Report, case_of};
 use zw_token::tokens;
 
 /// The greatest number of bytes in a text that has tokens.

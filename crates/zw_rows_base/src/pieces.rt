@@ -1,8 +1,8 @@
 // Bytes, piece by piece: text, lines, text with escapes, hexadecimal, repeated text, and bytes that have a name.
 use crate::fields::Field;
 use crate::mistake::{Mistake, Problem};
+use crate::spelling::{hex_bytes, natural, unescaped, word};
 use crate::table::Line;
-use crate::words::{hex_bytes, natural, unescaped, word};
 use std::alloc::Global;
 
 /// Whether a line that begins with this word is a piece of bytes.
@@ -17,7 +17,7 @@ pub fn is_piece(word: &str) -> bool {
 pub fn takes_bytes(word: &str) -> bool {
     matches!(
         word,
-        "bytes" | "build" | "session" | "tokens" | "trees" | "nodes" | "source"
+        "bytes" | "build" | "session" | "machine" | "tokens" | "trees" | "nodes" | "source"
     ) || matches!(word, "file" | "input" | "out" | "ends" | "diag" | "left")
 }
 

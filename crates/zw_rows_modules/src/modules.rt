@@ -1,13 +1,10 @@
 // Rows of the bytes of modules: what reading them gives, and what is written of the module that they spell.
 ghost use Rattle.std.specs.Prelude.{◌≡◌, ◌<◌, ◌^◌, length};
 
-use crate::fields::Field;
-use crate::mistake::{Mistake, Problem};
-use crate::report::Report;
-use crate::words::hex_bytes;
 use std::alloc::Global;
 use zw_base::Oom;
 use zw_outside::MemSink;
+use zw_rows_base::{Field, Mistake, Problem, Report, hex_bytes};
 use zw_wasm::write;
 use zw_wasm_read::{ReadErr, read};
 

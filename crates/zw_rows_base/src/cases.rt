@@ -1,7 +1,7 @@
 // Cases of a line each: a text, and what is wanted of it.
 use crate::mistake::{Mistake, Problem};
+use crate::spelling::unescaped;
 use crate::table::Line;
-use crate::words::unescaped;
 use std::alloc::Global;
 
 /// A text, as the line spells it and by its bytes, and what is wanted.

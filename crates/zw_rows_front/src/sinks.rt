@@ -1,12 +1,8 @@
 // Rows of an output in memory, piece by piece.
-use crate::fields::Field;
-use crate::mistake::{Mistake, Problem};
-use crate::report::Report;
-use crate::table::Line;
-use crate::words::{natural, small, smalls, unescaped};
 use std::alloc::Global;
 use zw_base::{PutErr, Sink};
 use zw_outside::MemSink;
+use zw_rows_base::{Field, Line, Mistake, Problem, Report, natural, small, smalls, unescaped};
 
 /// `sink NAME`: `cap N` and `failing-puts N..` begin anew with room for so many bytes and with these puts failing; `reserve N` makes room for so many bytes;
 /// `put TEXT`, a tab and how many bytes of the text were taken, or `failed`; `taken TEXT` is all that was taken so far. Texts have escapes.

@@ -4,12 +4,8 @@ ghost use Rattle.zw_types.specs.TypeTrees.{TypeTree};
 ghost use Rattle.zw_types.specs.Tables.{IsFormed};
 ghost use Rattle.zw_types.specs.Readings.{form_tree, types_in_form};
 
-use crate::fields::Field;
-use crate::mistake::{Mistake, Problem};
-use crate::report::Report;
-use crate::table::Line;
-use crate::words::small;
 use std::alloc::Global;
+use zw_rows_base::{Field, Line, Mistake, Problem, Report, small};
 use zw_types::{TypeForm, TypeId, Types};
 
 /// The number of the type of this name, which has no parts.

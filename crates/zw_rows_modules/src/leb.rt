@@ -1,12 +1,8 @@
 // Rows of numbers in the bytes of a module.
-use crate::fields::Field;
-use crate::mistake::{Mistake, Problem};
-use crate::report::Report;
-use crate::table::Line;
-use crate::words::hex_bytes;
 use std::alloc::Global;
 use zw_base::Oom;
 use zw_leb::{Leb, get_i32, get_i64, get_u32, put_i32, put_i64, put_u32};
+use zw_rows_base::{Field, Line, Mistake, Problem, Report, hex_bytes};
 
 /// `leb NAME`: lines `put-u32 N = HEX`, `put-i32` and `put-i64` in the same way, and `get-u32 HEX = N COUNT`, `get-i32` and `get-i64`:
 /// the number at the front of the bytes and how many bytes spell it, or `none`.

@@ -1,0 +1,14 @@
+//! Rows of numbers, types and values, each by the calls that it is about. The crate knows nothing of texts, modules or commands.
+#![tactic(auto)]
+
+mod applied;
+mod coercions;
+mod num;
+mod parts;
+mod types;
+
+pub use applied::{check_applied, operator_of};
+pub use coercions::check_coercions;
+pub use num::{check_num, type_of};
+pub use parts::check_parts;
+pub use types::check_types;
