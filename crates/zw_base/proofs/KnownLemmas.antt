@@ -1,7 +1,6 @@
 -- What is known of the bytes that a sink has taken or a source has left, from one call to the next.
-use Rattle.std.proofs.Common.{◌≡◌, ℕ, ◌+◌, ◌<◌, min, List, [], ◌++◌, length, take, drop, Option, Some, None, Bool, ◌&&◌, nat_eq, true, false, subst, ◌-◌, sym, ◌∙◌, ap, append_assoc, arith, refl, length-append}
+use Rattle.std.proofs.Common.{◌≡◌, ℕ, ◌+◌, List, ◌++◌, take, drop, Option, Some, None, Bool, ◌&&◌, nat_eq, false, subst, ◌-◌, sym, ◌∙◌, ap, append_assoc, arith}
 use Rattle.std.proofs.Math.Seq.{take-add}
-use Rattle.std.proofs.lemmas.List.{take_at, take_rest, take-append-drop, length-take, length-drop, drop_all, drop-drop}
 use Rattle.std.proofs.lemmas.Bool.Decides.{nat_tests}
 use Rattle.std.specs.Io.KnownBytes.{Appends}
 use Rattle.zw_base.specs.Faults.{Counts}

@@ -5,7 +5,7 @@ use Rattle.std.specs.Str.{bytes_eq}
 use Rattle.zw_base.specs.declared.stop.StopKind.TheVariants.{Error}
 use Rattle.zw_num.specs.declared.op.TheConstants as number
 use Rattle.zw_types.specs.TypeTrees as tree
-use Rattle.zw_types.specs.TypeTrees.{TypeTree, ValueTree}
+use Rattle.zw_types.specs.TypeTrees.{TypeTree}
 use Rattle.zw_values.specs.Coercions.{peer_of_all}
 use Rattle.zw_layout.specs.Sizes.{integer_layout}
 use Rattle.zw_env.specs.Parts.{Part, Operand, Next, Visit, VisitKnown, VisitUnevaluated, Operation, Raise, Done, Halt, a_value, in_type, alone, is_comptime_only, is_lost}

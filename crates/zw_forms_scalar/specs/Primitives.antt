@@ -5,7 +5,7 @@ use Rattle.zw_base.specs.declared.stop.StopKind.TheVariants.{Error, Limit}
 use Rattle.zw_token.specs.Names.{is_sized_name}
 use Rattle.zw_token.specs.Numbers.{decimal_value}
 use Rattle.zw_types.specs.TypeTrees as tree
-use Rattle.zw_types.specs.TypeTrees.{TypeTree, ValueTree}
+use Rattle.zw_types.specs.TypeTrees.{TypeTree}
 use Rattle.zw_env.specs.Parts.{Next, Done, Halt, a_value}
 
 abbrev pub type_part : {N : Type 0} → TypeTree → Next N

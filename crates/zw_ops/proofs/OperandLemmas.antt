@@ -6,7 +6,7 @@ use Rattle.zw_types.specs.declared.value.Value.{Value}
 use Rattle.zw_types.specs.declared.value.Value.TheVariants as v
 use Rattle.zw_types.specs.declared.value.Value.TheOpen.{Value-F}
 use Rattle.zw_types.specs.TypeTrees as tree
-use Rattle.zw_types.specs.TypeTrees.{TypeTree, ValueTree}
+use Rattle.zw_types.specs.TypeTrees.{TypeTree}
 use Rattle.zw_types.specs.Readings.{value_tree, types_in}
 use Rattle.zw_types.proofs.Agreement.{value_tree-roll, types_in-roll}
 use Rattle.zw_ops.specs.Applied.{IsHeld}

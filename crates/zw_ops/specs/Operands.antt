@@ -7,7 +7,7 @@ use Rattle.zw_types.specs.declared.value.Value.TheVariants as v
 use Rattle.zw_types.specs.TypeTrees.{TypeTree, ValueTree, NumberValue}
 use Rattle.zw_values.specs.Coercions.{integer_of}
 use Rattle.zw_values.specs.Operations as operation
-use Rattle.zw_values.specs.Operations.{Operation, first_integers, operation_of}
+use Rattle.zw_values.specs.Operations.{Operation, first_integers}
 
 -- where the value is a number, it is such a number
 abbrev pub IfNumber : (ℤ → Type 0) → ValueTree → Type 0

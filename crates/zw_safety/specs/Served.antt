@@ -1,5 +1,5 @@
 -- Which operators are served on which types, as a test.
-use Rattle.std.specs.Prelude.{ℕ, ◌%◌, nat_eq, nat_le, Bool, true, false, not, ◌&&◌, ◌||◌}
+use Rattle.std.specs.Prelude.{ℕ, ◌%◌, nat_eq, nat_le, Bool, false, not, ◌&&◌, ◌||◌}
 use Rattle.zw_num.specs.Arithmetic.{width}
 use Rattle.zw_num.specs.declared.int_ty.IntTy.{IntTy}
 use Rattle.zw_num.specs.declared.int_ty.IntTy.TheVariants.{Sized, Comptime}

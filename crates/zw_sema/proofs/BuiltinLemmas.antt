@@ -16,7 +16,7 @@ use Rattle.zw_layout.specs.declared.layout.Layout.{Layout}
 use Rattle.zw_layout.specs.Sizes.{bytes_for, integer_layout}
 use Rattle.zw_values.specs.Coercions.{peer_of_all}
 use Rattle.zw_values.specs.Operations as operation
-use Rattle.zw_values.specs.Operations.{Gives, Logic, And, Or, Extreme, given, OnAll}
+use Rattle.zw_values.specs.Operations.{Gives, And, Or, Extreme, given, OnAll}
 use Rattle.zw_typed.specs.Nodes.{TypedNode}
 use Rattle.zw_env.specs.Parts.{Next, Visit, VisitUnevaluated, Operation, Raise, Done, Halt, a_value, alone, is_lost}
 use Rattle.zw_typed.specs.ValueTypes.{HasWidths, IsValueOf, AreValuesOf}

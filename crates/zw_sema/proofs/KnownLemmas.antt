@@ -22,7 +22,7 @@ use Rattle.zw_values.specs.Operations.{Outcome, applied}
 use Rattle.zw_values.proofs.SameLemmas.{is_same-true}
 use Rattle.zw_typed.specs.Nodes.{Op, Become, Argument, Operate, TypedNode, node, no_nodes, node_and, nodes_from}
 use Rattle.zw_env.specs.Counting.{Counters}
-use Rattle.zw_env.specs.Parts.{Part, Operand, Next, Visit, VisitKnown, VisitUnevaluated, Operation, Emit, Lookup, Bind, Returns, Raise, Done, Halt, HaltAt, a_value, a_node, is_lost}
+use Rattle.zw_env.specs.Parts.{Operand, Next, Visit, VisitKnown, VisitUnevaluated, Operation, Emit, Lookup, Bind, Returns, Raise, Done, Halt, HaltAt, a_value, a_node, is_lost}
 use Rattle.zw_env.specs.Parts as next
 use Rattle.zw_env.specs.Children.{tree_at, forms_below}
 use Rattle.zw_typed.specs.ValueTypes.{HasWidths, IsNumberIn, IsValueOf, AreValuesOf, IsKnownOf}

@@ -7,7 +7,7 @@ use Rattle.zw_tree.specs.declared.ast.Entry.{Entry}
 use Rattle.zw_tree.specs.declared.kind.NodeKind.{NodeKind}
 use Rattle.zw_tree.specs.declared.kind.NodeKind.TheVariants as kind
 use Rattle.zw_types.specs.TypeTrees as tree
-use Rattle.zw_types.specs.TypeTrees.{TypeTree, ValueTree, TypeOption, TypeOptions}
+use Rattle.zw_types.specs.TypeTrees.{TypeTree, ValueTree}
 use Rattle.zw_typed.specs.Nodes.{Import, CallHost, InOrder, TypedNode}
 use Rattle.zw_typed.specs.HostTypes.{is_void}
 use Rattle.zw_env.specs.Parts.{Operand, Next, Visit, VisitKnown, Emit, Bind, Returns, Done, Halt, HaltAt, alone}

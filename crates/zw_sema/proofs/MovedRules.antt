@@ -13,7 +13,7 @@ use Rattle.zw_types.specs.TypeTrees.{TypeTree, ValueTree}
 use Rattle.zw_values.specs.Coercions.{peer_of}
 use Rattle.zw_values.specs.Operations.{Logic, And, Or}
 use Rattle.zw_typed.specs.Nodes.{TypedNode, Decide}
-use Rattle.zw_env.specs.Parts.{Part, Operand, Next, Visit, VisitKnown, VisitUnevaluated, Operation, Emit, Lookup, Bind, Returns, Raise, Done, Halt, HaltAt, a_value, in_type, alone, is_lost, is_comptime_only}
+use Rattle.zw_env.specs.Parts.{Operand, Next, Visit, VisitKnown, VisitUnevaluated, Operation, Emit, Lookup, Bind, Returns, Raise, Done, Halt, HaltAt, a_value, alone, is_lost, is_comptime_only}
 use Rattle.zw_env.specs.Parts as next
 use Rattle.zw_forms_scalar.specs.Primitives.{type_part, plain_primitives, next_named, sized_primitive, primitive}
 use Rattle.zw_forms_scalar.specs.Operators.{is_some, is_integer, is_truth, is_unsigned, is_comptime_int, known_is, is_zero, is_positive, is_natural, in_peer, arithmetic, division_in, division, shift_by, shifting, is_saturating_amount, saturating_shift, compared, ordering, has_equality, are_alike, equality, Family, Arithmetic, Division, Shifting, SaturatingShift, Ordering, Equality, binary_operator, right_wanted, on_operands, binary_rule, after_left, after_both, logic_rule, unary_operator, unary_rule}

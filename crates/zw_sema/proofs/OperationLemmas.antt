@@ -18,7 +18,7 @@ use Rattle.zw_types.specs.TypeTrees as tree
 use Rattle.zw_types.specs.TypeTrees.{TypeTree, ValueTree}
 use Rattle.zw_values.specs.Sameness.{is_same}
 use Rattle.zw_values.specs.Operations as operation
-use Rattle.zw_values.specs.Operations.{Outcome, Gives, outcome_of, outcome_of_fault, Binary, wrapping, saturating, binary, Shift, shift, Unary, unary, Comparison, equality, compared, compared_values, Count, counted, count_on_value, Extreme, extreme, number_in, on_number, extreme_from, extreme_of, negated, int_from_bool, given, OnTwo, OnShifted, OnOne, OnBits, OnAll, OnOrder, Negation, TruthNumber}
+use Rattle.zw_values.specs.Operations.{Gives, outcome_of, outcome_of_fault, Binary, wrapping, saturating, binary, Shift, shift, Unary, unary, Comparison, equality, compared, compared_values, Count, counted, Extreme, extreme, extreme_from, extreme_of, negated, int_from_bool, given, OnTwo, OnShifted, OnOne, OnBits, OnAll, OnOrder, Negation, TruthNumber}
 use Rattle.zw_typed.specs.ValueTypes.{HasWidths, IsNumberIn, IsTruth, IsValueOf, AreValuesOf}
 
 -- ---- results are in a type

@@ -17,7 +17,7 @@ use Rattle.zw_types.specs.TypeTrees.{TypeTree, ValueTree}
 use Rattle.zw_values.specs.Sameness.{is_same}
 use Rattle.zw_values.specs.Coercions.{integer_of, has_all, is_no_return, is_undefined_type, integer_peer, peer_of, peer_of_all}
 use Rattle.zw_values.specs.Operations as operation
-use Rattle.zw_values.specs.Operations.{Gives, Logic, And, Or, Extreme, given, OnAll}
+use Rattle.zw_values.specs.Operations.{Logic, And, Or}
 use Rattle.zw_typed.specs.Nodes.{TypedNode}
 use Rattle.zw_env.specs.Parts.{Next, Operation, Done, Halt, a_value, alone}
 use Rattle.zw_typed.specs.ValueTypes.{HasWidths, IsValueOf, IsKnownOf}

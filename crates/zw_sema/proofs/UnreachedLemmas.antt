@@ -9,11 +9,11 @@ use Rattle.zw_base.specs.declared.stop.StopKind.{StopKind}
 use Rattle.zw_tree.specs.Trees.{Forest}
 use Rattle.zw_tree.specs.declared.ast.Entry.{Entry}
 use Rattle.zw_types.specs.TypeTrees as tree
-use Rattle.zw_types.specs.TypeTrees.{TypeTree, ValueTree, TypeOptions, TypeOption}
+use Rattle.zw_types.specs.TypeTrees.{TypeTree, ValueTree}
 use Rattle.zw_values.specs.ObjectStore.{Stage, at_compile_time, at_run_time}
 use Rattle.zw_typed.specs.Nodes.{TypedNode}
 use Rattle.zw_env.specs.Counting.{Counters}
-use Rattle.zw_env.specs.Parts.{Part, Next, Visit, VisitKnown, VisitUnevaluated, Operation, Emit, Lookup, Bind, Returns, Raise, Done, Halt, HaltAt}
+use Rattle.zw_env.specs.Parts.{Next, Visit, VisitKnown, VisitUnevaluated, Operation, Emit, Lookup, Bind, Returns, Raise, Done, Halt, HaltAt}
 use Rattle.zw_env.specs.Parts as next
 use Rattle.zw_env.specs.Children.{tree_at, kind_of, place_of, declared_name, is_among}
 use Rattle.zw_forms_decl.specs.DeclarationRules.{nothing}

@@ -2,7 +2,7 @@
 use Rattle.std.specs.Prelude.{ℕ, ◌+◌, ℤ, pos, neg_ℤ, List, [], ◌∷◌, ◌++◌, length, Option, Some, None}
 use Rattle.zw_base.specs.declared.stop.StopKind.{StopKind}
 use Rattle.zw_session.specs.Sessions as session
-use Rattle.zw_session.specs.Sessions.{Scalar, Number, Truth, HostEvent, Call, Halt, Session, SessionEnd}
+use Rattle.zw_session.specs.Sessions.{Scalar, Number, Call, Session, SessionEnd}
 use Rattle.zw_tree.specs.Trees.{Forest, none, tree, beside}
 use Rattle.zw_tree.specs.declared.ast.Entry.{Entry}
 use Rattle.zw_tree.specs.declared.kind.NodeKind.{NodeKind}

@@ -3,7 +3,7 @@
 use Rattle.std.specs.Prelude.{◌≡◌, ◌<◌, ◌≤◌, ◌⊎◌, ◌+◌, ℕ, IsTrue, Bool, true, false, if◌then◌else◌, List, [], ◌∷◌, ◌++◌, length, map, slice_get, slice_index_or, All, AllPairs, Option, Some, None}
 use Rattle.std.specs.Str.{bytes_eq}
 use Rattle.zw_types.specs.TypeTrees as tree
-use Rattle.zw_types.specs.TypeTrees.{TypeTree, ValueTree}
+use Rattle.zw_types.specs.TypeTrees.{TypeTree}
 use Rattle.zw_types.specs.Tables.{IsTable}
 use Rattle.zw_types.specs.Readings.{type_at, value_tree, types_in}
 use Rattle.zw_types.specs.declared.value.TypeId.{TypeId}

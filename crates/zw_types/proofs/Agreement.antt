@@ -12,7 +12,7 @@ use Rattle.zw_types.specs.declared.type_form.TypeForm.TheVariants as form
 use Rattle.zw_types.specs.declared.type_form.FieldShape.{FieldShape}
 use Rattle.zw_types.specs.declared.type_form.Shape.{Shape}
 use Rattle.zw_types.specs.TypeTrees as tree
-use Rattle.zw_types.specs.TypeTrees.{TypeTree, ValueTree, values_from, value_option, types_from, type_option}
+use Rattle.zw_types.specs.TypeTrees.{TypeTree, values_from, types_from, type_option}
 use Rattle.zw_types.specs.Readings.{type_at, value_layer, value_tree, values_tree, sentinel_tree, form_tree, types_in_layer, types_in, types_in_all, types_in_choice, number_in, types_in_form, types_in_field, types_in_shape, field_tree, shape_tree}
 use Rattle.zw_types.proofs.Each.{Each, Each-left, Each-right}
 use Rattle.zw_types.proofs.ValueInduction.{Cases, value_induction}

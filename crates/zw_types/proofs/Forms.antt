@@ -10,7 +10,7 @@ use Rattle.zw_types.specs.declared.value.Value.TheOpen.{Value-F}
 use Rattle.zw_types.specs.declared.type_form.TypeForm.{TypeForm}
 use Rattle.zw_types.specs.declared.type_form.TypeForm.TheVariants as form
 use Rattle.zw_types.specs.TypeTrees as tree
-use Rattle.zw_types.specs.TypeTrees.{TypeTree, TypeOption, TypeOptions, ValueTree, ValueOption, ValueTrees, values_from, value_option, types_from, type_option}
+use Rattle.zw_types.specs.TypeTrees.{TypeTree, TypeOption, TypeOptions, ValueTree, ValueOption, ValueTrees, values_from, types_from, type_option}
 use Rattle.zw_types.specs.Readings.{type_at, value_layer, value_tree, values_tree, sentinel_tree, form_tree, types_in_layer, types_in, types_in_all, types_in_choice, number_in, types_in_form}
 use Rattle.zw_types.specs.SameTypes.{same_type}
 use Rattle.zw_types.proofs.Each.{Each, Each-left, Each-right}

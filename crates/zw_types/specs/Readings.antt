@@ -10,7 +10,7 @@ use Rattle.zw_types.specs.declared.type_form.FieldShape.{FieldShape}
 use Rattle.zw_types.specs.declared.type_form.Shape.{Shape}
 use Rattle.zw_types.specs.declared.type_form.TypeForm.TheVariants as form
 use Rattle.zw_types.specs.TypeTrees as tree
-use Rattle.zw_types.specs.TypeTrees.{TypeTree, TypeOption, TypeOptions, ValueTree, ValueOption, ValueTrees, values_from, value_option, types_from, type_option, FieldTree, ShapeTree}
+use Rattle.zw_types.specs.TypeTrees.{TypeTree, ValueTree, ValueOption, ValueTrees, values_from, value_option, types_from, type_option, FieldTree, ShapeTree}
 
 module _ (types : List TypeTree) where
   -- the type of a number

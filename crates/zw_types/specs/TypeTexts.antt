@@ -2,7 +2,7 @@
 use Rattle.std.specs.Prelude.{◌≡◌, ℕ, pos, Bool, true, false, List, [], ◌++◌, Option, Some, None, codes}
 use Rattle.std.specs.Fmt.{decimal, signed_decimal}
 use Rattle.zw_types.specs.TypeTrees as tree
-use Rattle.zw_types.specs.TypeTrees.{TypeTree, ValueTree, ValueOption}
+use Rattle.zw_types.specs.TypeTrees.{TypeTree, ValueOption}
 
 -- an integer type: whether it is signed, its bits, and whether it is `usize` or `isize`
 abbrev pub integer_text : Bool → ℕ → Bool → List ℕ

@@ -6,7 +6,7 @@ use Rattle.zw_types.specs.declared.value.Value.TheVariants as v
 use Rattle.zw_types.specs.declared.type_form.TypeForm.{TypeForm}
 use Rattle.zw_types.specs.declared.type_form.TypeForm.TheVariants as form
 use Rattle.zw_types.specs.TypeTrees as tree
-use Rattle.zw_types.specs.TypeTrees.{TypeTree, ValueTree, values_from}
+use Rattle.zw_types.specs.TypeTrees.{TypeTree, values_from}
 use Rattle.zw_types.specs.Readings.{trees_from}
 
 abbrev pub id : ℕ → TypeId

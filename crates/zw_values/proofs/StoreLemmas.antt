@@ -4,7 +4,7 @@ use Rattle.std.specs.Option.{option_map}
 use Rattle.std.proofs.Common.{sym, ◌∙◌, ap}
 use Rattle.std.proofs.lemmas.Option.{slice_get_within}
 use Rattle.zw_types.specs.TypeTrees as tree
-use Rattle.zw_types.specs.TypeTrees.{TypeTree, ValueTree}
+use Rattle.zw_types.specs.TypeTrees.{ValueTree}
 use Rattle.zw_types.proofs.ListLemmas.{slice_get_set, slice_get_set_other}
 use Rattle.zw_values.specs.Paths.{part_of, with_part, written_at}
 use Rattle.zw_values.specs.ObjectStore.{Object, Store, Place, IsDead, place_in, place_of, saved}

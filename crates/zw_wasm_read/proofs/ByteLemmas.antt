@@ -1,12 +1,11 @@
 -- Bytes after their number.
-use Rattle.std.proofs.Common.{◌≡◌, ℕ, ◌-◌, ◌<◌, ◌≤◌, ℤ, List, ◌++◌, length, take, drop, refl, sym, ap, subst, ◌∙◌, arith, length-append, w32, w64, to_z, of_z, IsUtf8, IsTrue, ◌↔◌, false, true, Bool}
-use Rattle.std.proofs.lemmas.List.{take-append-drop, length-take-le, take_rest}
+use Rattle.std.proofs.Common.{◌≡◌, ℕ, ◌-◌, ◌<◌, ◌≤◌, ℤ, List, length, take, drop, refl, sym, ap, subst, arith, length-append, w32, w64, to_z, of_z, IsUtf8, IsTrue, ◌↔◌, false, true}
+use Rattle.std.proofs.lemmas.List.{length-take-le, take_rest}
 use Rattle.std.proofs.lemmas.Int.{to_z-of_z}
-use Rattle.zw_leb.specs.Reading.{BeginsUnsigned, BeginsSigned}
+use Rattle.zw_leb.specs.Reading.{BeginsSigned}
 use Rattle.zw_leb.proofs.ShortestNumbers.{within_32_bits, within_64_bits}
-use Rattle.zw_wasm.specs.ModuleBytes.{◌⌢◌, Exactly, IsU32, IsS32, IsS64, IsByteVector, IsName}
+use Rattle.zw_wasm.specs.ModuleBytes.{Exactly, IsU32, IsS32, IsS64, IsByteVector, IsName}
 use Rattle.zw_wasm_read.specs.Reads.{Leaves}
-use Rattle.zw_wasm_read.specs.Uniqueness.{Sure}
 use Rattle.zw_wasm_read.proofs.Leaving.{then, front_of, as_kind}
 use Rattle.zw_wasm_read.proofs.Uniqueness.{sure-u32, behind, sure-byte_vector, name-bytes}
 

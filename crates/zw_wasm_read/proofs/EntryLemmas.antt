@@ -1,5 +1,5 @@
 -- The entries of sections, of which one stands at a place.
-use Rattle.std.proofs.Common.{◌≡◌, ℕ, ◌<◌, ◌^◌, Bool, List, [], ◌∷◌, ◌++◌, refl, sym, ap, subst, ◌∙◌, append-nil, arith, eqb, length, true, false, IsTrue, ◌↔◌}
+use Rattle.std.proofs.Common.{◌≡◌, ℕ, ◌<◌, ◌^◌, Bool, List, [], ◌++◌, sym, ap, subst, ◌∙◌, append-nil, arith, eqb, length, true, false, IsTrue, ◌↔◌}
 use Rattle.std.proofs.lemmas.Bool.{eqb-false}
 use Rattle.zw_wasm.specs.declared.module.CodeBody.{CodeBody}
 use Rattle.zw_wasm.specs.declared.module.DataSegment.{DataSegment}
@@ -10,7 +10,7 @@ use Rattle.zw_wasm.specs.declared.module.GlobalDef.{GlobalDef}
 use Rattle.zw_wasm.specs.declared.module.Instr.{Instr}
 use Rattle.zw_wasm.specs.declared.module.ValType.{ValType}
 use Rattle.zw_wasm.specs.declared.module.Limits.{Limits}
-use Rattle.zw_wasm.specs.ModuleBytes.{◌⌢◌, Byte, IsU32, IsVector, IsByteVector, IsName, IsExpression, IsFunctionImport, IsGlobal, IsExport, IsExportKind, IsElement, IsDataSegment, IsLocalRun, IsCode, IsValueType, IsMutability, local_count}
+use Rattle.zw_wasm.specs.ModuleBytes.{◌⌢◌, Byte, IsU32, IsVector, IsByteVector, IsExpression, IsFunctionImport, IsGlobal, IsExport, IsExportKind, IsElement, IsDataSegment, IsLocalRun, IsCode, local_count}
 use Rattle.zw_wasm_read.specs.declared.vectors.TableType.{TableType}
 use Rattle.zw_wasm_read.specs.Bodies.{IsBody}
 use Rattle.zw_wasm_read.specs.Reads.{Leaves, IsUnfit}
@@ -18,7 +18,7 @@ use Rattle.zw_wasm_read.specs.Tables.{IsTable}
 use Rattle.zw_wasm_read.specs.Uniqueness.{Sure}
 use Rattle.zw_wasm_read.proofs.ExpressionLemmas.{sure-expression}
 use Rattle.zw_wasm_read.proofs.Leaving.{turn, then, as_kind}
-use Rattle.zw_wasm_read.proofs.Uniqueness.{sure-byte, sure-u32, sure-name, sure-byte_vector, sure-vector, sure-value_type, sure-mutability, sure-table_type, behind, then_one, three_one}
+use Rattle.zw_wasm_read.proofs.Uniqueness.{sure-byte, sure-u32, sure-name, sure-byte_vector, sure-vector, sure-value_type, sure-mutability, sure-table_type, then_one, three_one}
 
 abbrev import_of : List ℕ → List ℕ → ℕ → FuncImport
 import_of names field ty = record { «module» = names; field = field; ty = ty }

@@ -1,17 +1,17 @@
 -- Where reading stops, no module has the bytes.
-use Rattle.std.proofs.Common.{◌≡◌, ◌⊎◌, ℕ, zero, suc, ◌+◌, ◌-◌, ◌<◌, ◌≤◌, List, [], ◌∷◌, ◌++◌, length, map, Option, Some, None, refl, sym, ap, subst, ◌∙◌, inl, inr, arith}
+use Rattle.std.proofs.Common.{◌≡◌, ◌⊎◌, ℕ, zero, suc, ◌+◌, ◌-◌, ◌<◌, ◌≤◌, List, [], ◌∷◌, length, map, Option, Some, None, refl, sym, ap, subst, ◌∙◌, inl, inr, arith}
 use Rattle.std.proofs.lemmas.Bool.{cases_lt}
 use Rattle.zw_wasm.specs.declared.module.Limits.{Limits}
 use Rattle.zw_wasm.specs.declared.module.Module.{Module}
-use Rattle.zw_wasm.specs.ModuleBytes.{◌⌢◌, IsU32, EachInTurn, IsVector, IsTableType, IsSection, IsListSection, IsStartSection, IsCustomSection, IsSomeName, Anything, Behind, IsHeader, ModuleBytes}
+use Rattle.zw_wasm.specs.ModuleBytes.{◌⌢◌, IsU32, EachInTurn, IsVector, IsTableType, IsSection, IsListSection, IsStartSection, IsCustomSection, IsSomeName, Anything, ModuleBytes}
 use Rattle.zw_wasm_read.specs.declared.stop.BadCode.{BadCode}
 use Rattle.zw_wasm_read.specs.declared.vectors.TableType.{TableType}
 use Rattle.zw_wasm_read.specs.Reads.{Leaves}
-use Rattle.zw_wasm_read.specs.Stops.{Stops, SectionStop, StartStop, HasNoEnd, LacksEntry, IsBadCustom, IsStop, IsFrame, SectionKind, Types, Imports, Functions, Tables, Memories, Globals, Exports, Elements, Codes, Datas, number_of, Entry, IsEntry}
+use Rattle.zw_wasm_read.specs.Stops.{Stops, SectionStop, StartStop, HasNoEnd, LacksEntry, IsBadCustom, IsStop, SectionKind, Types, Imports, Functions, Tables, Memories, Globals, Exports, Elements, Codes, Datas, number_of, Entry, IsEntry}
 use Rattle.zw_wasm_read.specs.Tables.{IsTable}
 use Rattle.zw_wasm_read.specs.Uniqueness.{Sure}
 use Rattle.zw_wasm_read.proofs.EntryLemmas.{all_of, sure-import, sure-global, sure-export, sure-element, sure-code, sure-data, sure-table}
-use Rattle.zw_wasm_read.proofs.Leaving.{turn, then, byte-whole}
+use Rattle.zw_wasm_read.proofs.Leaving.{turn, byte-whole}
 use Rattle.zw_wasm_read.proofs.Tails.{Listed, Tailed, tailed, listed_at, here_at, past_at, Here, Stage, After, after_header, same_sections, section_parts, section_one, frame_one}
 use Rattle.zw_wasm_read.proofs.Uniqueness.{sure-u32, sure-vector, sure-function_type, sure-limits, exactly-rest}
 use Rattle.zw_wasm_read.proofs.VectorLemmas.{vector_unfit}

@@ -1,11 +1,11 @@
 -- An expression, as far as it was read.
-use Rattle.std.proofs.Common.{◌≡◌, ℕ, ◌<◌, Bool, true, false, List, [], ◌∷◌, ◌++◌, length, refl, sym, ap, subst, ◌∙◌, append_assoc, append-nil, length-append, arith, ◌⊎◌, inl, inr, Option, Result, Ok, Err}
+use Rattle.std.proofs.Common.{◌≡◌, ℕ, ◌<◌, Bool, true, false, List, [], ◌∷◌, ◌++◌, length, refl, sym, ap, subst, ◌∙◌, append_assoc, length-append, arith, ◌⊎◌, inl, inr, Option, Result, Ok, Err}
 use Rattle.std.specs.Borrow.{Bor}
 use Rattle.std.specs.Result.{IsErrAnd}
 use Rattle.zw_wasm.specs.declared.module.Instr.{Instr}
 use Rattle.zw_wasm.specs.declared.module.Instr.TheVariants.{Block, Loop, If, Else, End}
 use Rattle.zw_wasm.specs.declared.module.ValType.{ValType}
-use Rattle.zw_wasm.specs.ModuleBytes.{◌⌢◌, EachInTurn, IsInstruction, IsExpression, ClosesIn, EndsOnce}
+use Rattle.zw_wasm.specs.ModuleBytes.{EachInTurn, IsInstruction, IsExpression, ClosesIn}
 use Rattle.zw_wasm_read.specs.Nesting.{GoesOn}
 use Rattle.zw_wasm_read.specs.Reads.{Leaves, IsUnfit, Reads}
 use Rattle.zw_wasm_read.specs.Uniqueness.{Sure}

@@ -1,13 +1,13 @@
 -- An instruction behind its opcode is read by the opcode, and is the only one there.
-use Rattle.std.proofs.Common.{◌≡◌, ◌⊎◌, ℕ, ◌≤◌, ℤ, List, [], Option, refl, sym, ap, subst, ◌∙◌, arith}
+use Rattle.std.proofs.Common.{◌≡◌, ℕ, ◌≤◌, ℤ, List, Option, refl, sym, ap, subst, ◌∙◌}
 use Rattle.zw_wasm.specs.declared.module.Instr.{Instr}
 use Rattle.zw_wasm.specs.declared.module.MemoryArgument.{MemoryArgument}
 use Rattle.zw_wasm.specs.declared.module.ValType.{ValType}
-use Rattle.zw_wasm.specs.ModuleBytes.{◌⌢◌, Exactly, Byte, IsU32, IsS32, IsS64, IsVector, IsBlockType, IsImmediate, IsInstruction}
+use Rattle.zw_wasm.specs.ModuleBytes.{◌⌢◌, Byte, IsU32, IsS32, IsS64, IsVector, IsBlockType, IsImmediate, IsInstruction}
 use Rattle.zw_wasm.specs.Opcodes.{Immediate, Nothing, BlockType, Index, Labels, IndexAndZero, Zero, Memory, Signed32, Signed64, immediate_of, opcode}
 use Rattle.zw_wasm_read.specs.MemoryArguments.{IsMemoryArgument}
-use Rattle.zw_wasm_read.specs.Operands.{HasIndex, HasNoOperands, IsBehind}
-use Rattle.zw_wasm_read.specs.Reads.{Leaves, IsUnfit}
+use Rattle.zw_wasm_read.specs.Operands.{HasIndex, IsBehind}
+use Rattle.zw_wasm_read.specs.Reads.{Leaves}
 use Rattle.zw_wasm_read.specs.Uniqueness.{Sure}
 use Rattle.zw_wasm_read.proofs.Leaving.{turn, then, as_kind, nothing}
 use Rattle.zw_wasm_read.proofs.OperandLemmas.{GoesWith, goes, same_instr, block_operand, index_operand, labels_operand, indirect_operand, zero_operand, memory_operand, const_32_operand, const_64_operand, no_operand}

@@ -1,7 +1,7 @@
 -- What is left behind one kind, and then another.
-use Rattle.std.proofs.Common.{◌≡◌, ℕ, ◌≤◌, List, [], ◌∷◌, ◌++◌, length, take, drop, refl, sym, ap, subst, ◌∙◌, append_assoc, arith}
-use Rattle.std.proofs.lemmas.List.{append_cancel_left, take-append-drop}
-use Rattle.zw_wasm.specs.ModuleBytes.{◌⌢◌, InTurn, Exactly, Byte}
+use Rattle.std.proofs.Common.{◌≡◌, ℕ, List, [], ◌∷◌, ◌++◌, take, drop, refl, sym, ap, ◌∙◌, append_assoc}
+use Rattle.std.proofs.lemmas.List.{take-append-drop}
+use Rattle.zw_wasm.specs.ModuleBytes.{◌⌢◌, Exactly, Byte}
 use Rattle.zw_wasm_read.specs.Reads.{Leaves}
 
 -- the first kind, and then the second

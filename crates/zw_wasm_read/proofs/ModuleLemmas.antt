@@ -1,10 +1,10 @@
 -- Sections one after another.
-use Rattle.std.proofs.Common.{◌≡◌, ◌⊎◌, ℕ, suc, ◌+◌, ◌<◌, ◌≤◌, List, [], ◌∷◌, ◌++◌, length, map, Option, Some, None, Result, Ok, Err, refl, sym, ap, subst, ◌∙◌, inl, inr, append-nil, length-append, arith}
+use Rattle.std.proofs.Common.{◌≡◌, ℕ, suc, ◌+◌, ◌≤◌, List, [], ◌∷◌, ◌++◌, length, map, Option, Result, Ok, Err, refl, sym, ap, subst, ◌∙◌, inl, inr, append-nil, length-append, arith}
 use Rattle.std.specs.Borrow.{Bor}
 use Rattle.std.specs.Result.{IsErrAnd}
 use Rattle.zw_wasm.specs.declared.module.Limits.{Limits}
 use Rattle.zw_wasm.specs.declared.module.Module.{Module}
-use Rattle.zw_wasm.specs.ModuleBytes.{◌⌢◌, Byte, Exactly, EachInTurn, IsU32, IsVector, IsTableType, IsSection, IsListSection, IsStartSection, IsHeader, AreCustomSections, Behind, AreFrontSections, AreBackSections, ModuleBytes, Sized}
+use Rattle.zw_wasm.specs.ModuleBytes.{◌⌢◌, EachInTurn, IsU32, IsVector, IsTableType, IsListSection, IsStartSection, IsHeader, AreCustomSections, Behind, AreFrontSections, AreBackSections, ModuleBytes}
 use Rattle.zw_wasm_read.specs.declared.module.Back.{Back}
 use Rattle.zw_wasm_read.specs.declared.module.Front.{Front}
 use Rattle.zw_wasm_read.specs.declared.stop.BadCode.{BadCode}
@@ -13,8 +13,8 @@ use Rattle.zw_wasm_read.specs.declared.stop.ReadErr.{ReadErr}
 use Rattle.zw_wasm_read.specs.declared.stop.ReadErr.TheVariants as stop
 use Rattle.zw_wasm_read.specs.declared.vectors.TableType.{TableType}
 use Rattle.zw_wasm_read.specs.Reads.{Leaves}
-use Rattle.zw_wasm_read.specs.Sections.{BeginsWith, Passed, PassesCustoms, Optional, OptionalStop, ReadsOptional, OptionalStart, OptionalStartStop, ReadsOptionalStart, Continues, FrontRead, ReadsFront, FrontSections, BackRead, ReadsBack, BackSections, ReadsModule, module_of}
-use Rattle.zw_wasm_read.specs.Stops.{Stops, SectionStop, StartStop, SectionKind, number_of, Entry, IsEntry, IsStop, StandsAt}
+use Rattle.zw_wasm_read.specs.Sections.{Passed, PassesCustoms, Optional, OptionalStop, ReadsOptional, OptionalStart, OptionalStartStop, ReadsOptionalStart, Continues, FrontRead, ReadsFront, BackRead, ReadsBack, ReadsModule, module_of}
+use Rattle.zw_wasm_read.specs.Stops.{Stops, SectionStop, StartStop, SectionKind, number_of, Entry, IsEntry, IsStop}
 use Rattle.zw_wasm_read.specs.Tables.{IsTable}
 use Rattle.zw_wasm_read.proofs.Excluded.{no_module}
 use Rattle.zw_wasm_read.proofs.Leaving.{turn, then, as_kind, no_byte}

@@ -1,11 +1,11 @@
 -- Sections and what stops them.
-use Rattle.std.proofs.Common.{◌≡◌, ◌⊎◌, ℕ, ◌+◌, ◌-◌, ◌<◌, ◌≤◌, Bool, true, false, eqb, List, [], ◌∷◌, ◌++◌, length, take, drop, Option, Result, Ok, Err, refl, sym, ap, subst, ◌∙◌, inl, inr, append_assoc, append-nil, length-append, arith}
+use Rattle.std.proofs.Common.{◌≡◌, ℕ, ◌+◌, ◌-◌, ◌<◌, ◌≤◌, Bool, true, false, eqb, List, [], ◌∷◌, ◌++◌, length, take, drop, Option, Result, Ok, Err, refl, sym, ap, subst, ◌∙◌, append_assoc, append-nil, length-append, arith}
 use Rattle.std.proofs.lemmas.List.{take_rest}
 use Rattle.std.proofs.lemmas.Bool.{eqb-false, eqb-true}
 use Rattle.std.specs.Borrow.{Bor}
 use Rattle.std.specs.List.{concat, AllByRecursion}
 use Rattle.std.specs.Result.{IsErrAnd}
-use Rattle.zw_wasm.specs.ModuleBytes.{◌⌢◌, Byte, IsU32, EachInTurn, IsVector, IsByteVector, IsName, IsSomeName, IsSection, IsCustomSection, AreCustomSections, Anything, Sized}
+use Rattle.zw_wasm.specs.ModuleBytes.{◌⌢◌, IsU32, EachInTurn, IsVector, IsByteVector, IsName, IsSomeName, IsSection, IsCustomSection, AreCustomSections, Anything}
 use Rattle.zw_wasm_read.specs.declared.sections.ContentErr.{ContentErr}
 use Rattle.zw_wasm_read.specs.declared.sections.ContentErr.TheVariants as content_err
 use Rattle.zw_wasm_read.specs.declared.stop.BadCode.{BadCode}
@@ -13,7 +13,7 @@ use Rattle.zw_wasm_read.specs.declared.stop.BadCode.TheVariants as bad
 use Rattle.zw_wasm_read.specs.declared.stop.ReadErr.{ReadErr}
 use Rattle.zw_wasm_read.specs.declared.stop.ReadErr.TheVariants as stop
 use Rattle.zw_wasm_read.specs.Reads.{Leaves, IsUnfit}
-use Rattle.zw_wasm_read.specs.Sections.{BeginsWith, IsFirst, IsInOrder, Passed, PassesCustom, PassesCustoms, ReadsSection, ReadsStart, Optional, OptionalStop, ReadsOptional, ReadsEntries, OptionalStartStop, ReadsOptionalStart}
+use Rattle.zw_wasm_read.specs.Sections.{BeginsWith, IsFirst, IsInOrder, Passed, PassesCustom, PassesCustoms, ReadsSection, ReadsStart, OptionalStop, ReadsOptional, ReadsEntries, OptionalStartStop, ReadsOptionalStart}
 use Rattle.zw_wasm_read.specs.Stops.{IsFrame, StandsAt, HasNoEnd, LacksEntry, SectionStop, StartStop, IsBadCustom, Stops}
 use Rattle.zw_wasm_read.proofs.Leaving.{turn, then, as_kind, byte, byte-whole}
 use Rattle.zw_wasm_read.proofs.Uniqueness.{behind_byte}

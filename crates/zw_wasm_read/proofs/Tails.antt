@@ -1,7 +1,6 @@
 -- Bytes spell one module at most: the sections of two modules at one place are the same.
-use Rattle.std.proofs.Common.{◌≡◌, ◌⊎◌, ℕ, zero, suc, ◌+◌, ◌-◌, ◌<◌, ◌≤◌, List, [], ◌∷◌, ◌++◌, length, Option, Some, None, refl, sym, ap, subst, ◌∙◌, inl, inr, append_assoc, append-nil, arith}
+use Rattle.std.proofs.Common.{◌≡◌, ◌⊎◌, ℕ, zero, suc, ◌+◌, ◌-◌, ◌≤◌, List, [], ◌∷◌, ◌++◌, Option, Some, None, refl, sym, ap, subst, ◌∙◌, inl, inr, append_assoc, arith}
 use Rattle.std.specs.List.{concat, AllByRecursion}
-use Rattle.std.proofs.lemmas.List.{append_cancel_left}
 use Rattle.zw_wasm.specs.declared.module.CodeBody.{CodeBody}
 use Rattle.zw_wasm.specs.declared.module.DataSegment.{DataSegment}
 use Rattle.zw_wasm.specs.declared.module.Element.{Element}
@@ -11,7 +10,7 @@ use Rattle.zw_wasm.specs.declared.module.FuncType.{FuncType}
 use Rattle.zw_wasm.specs.declared.module.GlobalDef.{GlobalDef}
 use Rattle.zw_wasm.specs.declared.module.Limits.{Limits}
 use Rattle.zw_wasm.specs.declared.module.Module.{Module}
-use Rattle.zw_wasm.specs.ModuleBytes.{◌⌢◌, InTurn, Byte, Exactly, IsU32, IsVector, IsByteVector, Sized, IsSection, IsListSection, IsStartSection, IsCustomSection, AreCustomSections, Behind, IsSomeName, Anything, IsFunctionType, IsFunctionImport, IsTableType, AreLimits, IsGlobal, IsExport, IsElement, IsCode, IsDataSegment, IsHeader, AreFrontSections, AreBackSections, ModuleBytes}
+use Rattle.zw_wasm.specs.ModuleBytes.{◌⌢◌, IsU32, IsVector, IsSection, IsListSection, IsStartSection, IsCustomSection, AreCustomSections, Behind, IsSomeName, Anything, IsFunctionType, IsFunctionImport, IsTableType, AreLimits, IsGlobal, IsExport, IsElement, IsCode, IsDataSegment, IsHeader, AreFrontSections, AreBackSections, ModuleBytes}
 use Rattle.zw_wasm_read.specs.Reads.{Leaves}
 use Rattle.zw_wasm_read.specs.Stops.{IsFrame}
 use Rattle.zw_wasm_read.specs.Uniqueness.{Sure}

@@ -1,13 +1,13 @@
 -- The parts of types.
-use Rattle.std.proofs.Common.{◌≡◌, ◌⊎◌, ℕ, ◌<◌, ◌≤◌, Bool, true, false, List, [], ◌∷◌, Option, Some, None, refl, sym, ap, subst, ◌∙◌, inl, inr, arith}
+use Rattle.std.proofs.Common.{◌≡◌, ◌⊎◌, ℕ, ◌<◌, ◌≤◌, Bool, true, false, List, Option, Some, None, refl, sym, subst, inl, inr, arith}
 use Rattle.zw_wasm.specs.declared.module.ValType.{ValType}
 use Rattle.zw_wasm.specs.declared.module.ValType.TheVariants.{I32, I64}
 use Rattle.zw_wasm.specs.declared.module.FuncType.{FuncType}
 use Rattle.zw_wasm.specs.declared.module.Limits.{Limits}
-use Rattle.zw_wasm.specs.ModuleBytes.{◌⌢◌, Byte, IsU32, EachInTurn, IsVector, IsValueType, IsResultType, IsFunctionType, AreBounds, AreLimits, IsBlockType, IsMutability}
+use Rattle.zw_wasm.specs.ModuleBytes.{◌⌢◌, Byte, IsU32, IsVector, IsValueType, IsResultType, IsFunctionType, AreBounds, AreLimits, IsBlockType, IsMutability}
 use Rattle.zw_wasm_read.specs.Reads.{Leaves, IsUnfit}
-use Rattle.zw_wasm_read.proofs.Leaving.{turn, then, as_kind, no_byte, nothing}
-use Rattle.zw_wasm_read.proofs.Uniqueness.{sure-byte, sure-u32, sure-vector, sure-value_type, behind, behind_byte, as_list, result-vector}
+use Rattle.zw_wasm_read.proofs.Leaving.{turn, then, no_byte}
+use Rattle.zw_wasm_read.proofs.Uniqueness.{sure-byte, sure-u32, behind, behind_byte}
 
 -- some byte
 pub type-first : (t : ValType) (bytes rest : List ℕ) → Leaves (IsValueType t) bytes rest → (b : ℕ) × Leaves (Byte b) bytes rest

@@ -1,13 +1,12 @@
 -- What stands at the front of bytes is one thing of its kind, and has one end.
-use Rattle.std.proofs.Common.{◌≡◌, ◌⊎◌, ℕ, suc, ◌≤◌, ◌<◌, ℤ, Bool, true, false, List, [], ◌∷◌, ◌++◌, length, Option, Some, None, refl, sym, ap, subst, ◌∙◌, inl, inr, append_assoc, arith}
+use Rattle.std.proofs.Common.{◌≡◌, ℕ, Bool, true, false, List, [], ◌∷◌, ◌++◌, length, Option, Some, None, refl, sym, ap, subst, ◌∙◌, arith}
 use Rattle.std.proofs.lemmas.List.{append_cancel_left}
 use Rattle.zw_leb.proofs.LebSpellings.{one_unsigned, one_signed}
 use Rattle.zw_wasm.specs.declared.module.ValType.{ValType}
 use Rattle.zw_wasm.specs.declared.module.ValType.TheVariants.{I32, I64}
 use Rattle.zw_wasm.specs.declared.module.FuncType.{FuncType}
-use Rattle.zw_wasm.specs.declared.module.FuncImport.{FuncImport}
 use Rattle.zw_wasm.specs.declared.module.Limits.{Limits}
-use Rattle.zw_wasm.specs.ModuleBytes.{◌⌢◌, InTurn, Exactly, Byte, IsU32, IsS32, IsS64, EachInTurn, IsVector, IsByteVector, IsName, Sized, IsValueType, IsResultType, IsFunctionType, AreBounds, AreLimits, IsTableType, IsMutability, IsBlockType}
+use Rattle.zw_wasm.specs.ModuleBytes.{◌⌢◌, Exactly, Byte, IsU32, IsS32, IsS64, EachInTurn, IsVector, IsByteVector, IsName, IsValueType, IsResultType, IsFunctionType, AreBounds, AreLimits, IsTableType, IsMutability, IsBlockType}
 use Rattle.zw_wasm_read.specs.Reads.{Leaves}
 use Rattle.zw_wasm_read.specs.Uniqueness.{Sure}
 use Rattle.zw_wasm_read.proofs.Leaving.{turn, nothing, byte-whole, as_kind}

@@ -1,6 +1,6 @@
 -- The items of a vector, so far and with one more.
-use Rattle.std.proofs.Common.{◌≡◌, ℕ, suc, ◌<◌, ◌≤◌, List, [], ◌∷◌, ◌++◌, length, refl, sym, ap, subst, ◌∙◌, append_assoc, append-nil, arith}
-use Rattle.zw_wasm.specs.ModuleBytes.{◌⌢◌, InTurn, IsU32, EachInTurn, IsVector}
+use Rattle.std.proofs.Common.{◌≡◌, ℕ, ◌<◌, ◌≤◌, List, [], ◌∷◌, ◌++◌, length, refl, sym, ap, subst, ◌∙◌, append_assoc, append-nil, arith}
+use Rattle.zw_wasm.specs.ModuleBytes.{IsU32, EachInTurn, IsVector}
 use Rattle.zw_wasm_read.specs.Reads.{Leaves, IsUnfit}
 use Rattle.zw_wasm_read.specs.Uniqueness.{Sure}
 use Rattle.zw_wasm_read.proofs.Leaving.{turn, then, nothing, no_byte}

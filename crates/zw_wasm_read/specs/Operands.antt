@@ -1,8 +1,8 @@
 -- An instruction behind its opcode.
-use Rattle.std.specs.Prelude.{◌≡◌, ◌⊎◌, ℕ, ◌≤◌, ◌<◌, List}
+use Rattle.std.specs.Prelude.{◌≡◌, ◌⊎◌, ℕ, ◌≤◌, List}
 use Rattle.zw_wasm.specs.declared.module.Instr.{Instr}
 use Rattle.zw_wasm.specs.ModuleBytes.{IsImmediate}
-use Rattle.zw_wasm.specs.Opcodes.{Immediate, Nothing, BlockType, Index, Labels, IndexAndZero, Zero, Memory, Signed32, Signed64, immediate_of, opcode}
+use Rattle.zw_wasm.specs.Opcodes.{Nothing, immediate_of, opcode}
 
 -- bytes that spell what stands behind this opcode in an instruction
 pub record IsBehind (code : ℕ) (i : Instr) (bytes : List ℕ) : Type 0 where

@@ -11,7 +11,7 @@ use Rattle.zw_wasm_read.specs.declared.stop.BadCode.{BadCode}
 use Rattle.zw_wasm_read.specs.declared.stop.BadCode.TheVariants as bad
 use Rattle.zw_wasm_read.specs.declared.stop.ReadErr.{ReadErr}
 use Rattle.zw_wasm_read.specs.declared.stop.ReadErr.TheVariants as stop
-use Rattle.zw_wasm_read.specs.Reads.{Leaves, IsUnfit}
+use Rattle.zw_wasm_read.specs.Reads.{Leaves}
 use Rattle.zw_wasm_read.specs.Stops.{Stops, SectionStop, StartStop, HasNoEnd, LacksEntry, IsBadCustom, IsStop, StandsAt}
 
 -- the bytes begin with this one

@@ -4,7 +4,7 @@ use Rattle.zw_token.specs.Tokens.{Tokens, TextStop}
 use Rattle.zw_token.proofs.Lists.{lies_at}
 use Rattle.zw_token.proofs.Stops.{stop_within}
 use Rattle.zw_token.proofs.lexer.tokens.Goals as goal
-use Rattle.zw_token.proofs.lexer.tokens.Goals.{In-Wrong, In-Tokens}
+use Rattle.zw_token.proofs.lexer.tokens.Goals.{In-Wrong}
 
 stop : (c : In-Wrong) → TextStop c.args.text.now c.in-Wrong.at c.in-Wrong.error
 stop c = subst (IsReading c.args.text.now) c.in-Wrong.is c.in_ok-list.ensures

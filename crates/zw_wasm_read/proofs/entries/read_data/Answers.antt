@@ -2,7 +2,7 @@ use Rattle.zw_wasm.specs.ModuleBytes.{IsByteVector, IsExpression, IsU32}
 use Rattle.zw_wasm_read.proofs.ExpressionLemmas.{sure-expression}
 use Rattle.zw_wasm_read.proofs.Exits.{exit}
 use Rattle.zw_wasm_read.proofs.Leaving.{turn, then}
-use Rattle.zw_wasm_read.proofs.Uniqueness.{sure-u32, sure-value_type, sure-mutability, behind, past_two}
+use Rattle.zw_wasm_read.proofs.Uniqueness.{sure-u32, behind, past_two}
 use Rattle.zw_wasm_read.proofs.entries.read_data.Goals as goal
 
 pub returns-in_err-memory : goal.returns-in_err-memory

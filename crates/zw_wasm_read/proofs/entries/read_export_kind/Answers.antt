@@ -1,5 +1,5 @@
 use Rattle.zw_wasm.specs.ModuleBytes.{Byte}
-use Rattle.zw_wasm_read.proofs.EntryLemmas.{kind_first, kind_large}
+use Rattle.zw_wasm_read.proofs.EntryLemmas.{kind_first}
 use Rattle.zw_wasm_read.proofs.Exits.{exit}
 use Rattle.zw_wasm_read.proofs.entries.read_export_kind.Goals as goal
 

@@ -1,8 +1,7 @@
 use Rattle.zw_wasm.specs.ModuleBytes.{IsExpression, IsMutability, IsValueType}
-use Rattle.zw_wasm_read.proofs.ExpressionLemmas.{sure-expression}
 use Rattle.zw_wasm_read.proofs.Exits.{exit}
 use Rattle.zw_wasm_read.proofs.Leaving.{turn, then}
-use Rattle.zw_wasm_read.proofs.Uniqueness.{sure-u32, sure-value_type, sure-mutability, behind, past_two}
+use Rattle.zw_wasm_read.proofs.Uniqueness.{sure-value_type, sure-mutability, behind, past_two}
 use Rattle.zw_wasm_read.proofs.entries.read_global.Goals as goal
 
 pub returns-in_err-ty : goal.returns-in_err-ty

@@ -1,4 +1,4 @@
-use Rattle.std.proofs.Common.{◌<◌, arith}
+use Rattle.std.proofs.Common.{arith}
 use Rattle.zw_wasm.specs.ModuleBytes.{Byte, IsU32}
 use Rattle.zw_wasm_read.proofs.Exits.{exit}
 use Rattle.zw_wasm_read.proofs.TypeLemmas.{limits-parts, limits-flag, limits-least, limits-greatest, with_least, with_both}

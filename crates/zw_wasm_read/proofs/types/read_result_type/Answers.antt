@@ -1,4 +1,4 @@
-use Rattle.std.proofs.Common.{◌<◌, arith}
+use Rattle.std.proofs.Common.{arith}
 use Rattle.zw_wasm.specs.ModuleBytes.{IsU32, IsValueType}
 use Rattle.zw_wasm_read.proofs.Exits.{exit}
 use Rattle.zw_wasm_read.proofs.TypeLemmas.{result-count, result-of_many, result-of_one, no_result, one_result}
