@@ -1,4 +1,6 @@
 // How what came differs from what was wanted.
+ghost use Rattle.std.specs.Prelude.{◌≡◌, ◌==◌, ◌<◌, IfOk, string_len};
+
 use std::alloc::{AllocError, Global};
 
 /// The greatest number of bytes that are shown of a text.
@@ -13,7 +15,9 @@ pub struct Report {
 
 impl Report {
     /// Nothing differs yet.
-    pub fn new(alloc: Global) -> Report {
+    pub fn new(alloc: Global) -> Report
+        ensures { string_len result.text ≡ 0 }
+    {
         Report {
             alloc,
             text: String::new(alloc),
@@ -21,7 +25,9 @@ impl Report {
     }
 
     /// Whether nothing differs.
-    pub fn is_right(&self) -> bool {
+    pub fn is_right(&self) -> bool
+        ensures { result ≡ (string_len self.now.text == 0) }
+    {
         self.text.is_empty()
     }
 
@@ -37,7 +43,10 @@ impl Report {
     }
 
     /// Adds two lines where these bytes differ.
-    pub fn compare(&mut self, what: &str, came: &[u8], wanted: &[u8]) -> Result<(), AllocError> {
+    pub fn compare(&mut self, what: &str, came: &[u8], wanted: &[u8]) -> Result<(), AllocError>
+        ensures same { came.now ≡ wanted.now → self.new ≡ self.old }
+        ensures differs { IfOk result (λ _. (came.now ≡ wanted.now → ⊥) → string_len self.old.text < string_len self.new.text) }
+    {
         if came == wanted {
             return Ok(());
         }
