@@ -5,8 +5,8 @@ use Rattle.std.specs.Prelude.{not, ◌&&◌, ◌||◌}
 use Rattle.std.specs.Str.{bytes_eq}
 use Rattle.std.proofs.lemmas.List.Concat.{flat_map-cons}
 use Rattle.std.proofs.lemmas.List.Elements.{All-cons, All-contains}
-use Rattle.zw_scope.specs.NameRules.{Violation, violations, violations_at, mentioned, told, is_shadow, shadow_at, shadows, unknowns, unused_at, unused, is_to_be_mentioned, is_repeated, is_mentioned, names_once, repeated, duplicates, label_at, labels, flows, breaks_label_rule, opens_label, is_open, is_identifier, names_primitive, is_nothing, named_by, takes, is_local, is_declared}
-use Rattle.zw_scope.specs.Scopes.{Standing, all_standing, kind_of, name_in, is_label}
+use Rattle.zw_scope.specs.NameRules.{Violation, violations, violations_at, mentioned, told, is_shadow, shadow_at, shadows, unknowns, unused_at, unused, is_to_be_mentioned, is_repeated, is_mentioned, names_once, repeated, duplicates, label_at, labels, flows, breaks_label_rule, names_primitive, is_nothing, named_by, takes, is_local, is_declared}
+use Rattle.zw_scope_sites.specs.Scopes.{opens_label, is_open, is_identifier, Standing, all_standing, kind_of, name_in, is_label}
 use Rattle.zw_tree.specs.Trees.{Forest}
 use Rattle.zw_tree.specs.declared.ast.Entry.{Entry}
 

@@ -13,10 +13,10 @@ use Rattle.zw_tree.specs.declared.ast.Entry.{Entry}
 use Rattle.zw_tree.specs.declared.ast.Node.{Node}
 use Rattle.zw_tree.proofs.Subtrees.{node-root}
 use Rattle.zw_scope.specs.NameRules.{AreNamed, IsNameStop, Violation, mentioned, violations, violations_at}
-use Rattle.zw_scope.specs.Scopes.{Standing, all_standing, around_file}
+use Rattle.zw_scope_sites.specs.Scopes.{Standing, all_standing, around_file}
 use Rattle.zw_scope.specs.Telling.{IsFirstOf}
 use Rattle.zw_scope.specs.declared.told.Told.{Told}
-use Rattle.zw_scope.proofs.PlacingLemmas.{length-standing}
+use Rattle.zw_scope_sites.proofs.PlacingLemmas.{length-standing}
 use Rattle.zw_scope.proofs.RepeatLemmas.{node-within}
 
 -- all that a node breaks, rule by rule

@@ -5,15 +5,15 @@ use Rattle.std.proofs.lemmas.Bool.{cases_eq}
 use Rattle.zw_tree.specs.Trees.{Forest, count}
 use Rattle.zw_tree.specs.Numbering.{below}
 use Rattle.zw_tree.specs.declared.ast.Entry.{Entry}
-use Rattle.zw_scope.specs.Lists.{Grows, IsBindings}
+use Rattle.zw_scope_sites.specs.Lists.{Grows, IsBindings}
 use Rattle.zw_scope.specs.MembersOf.{AreMembers, Declares}
 use Rattle.zw_scope.specs.declared.members.Members.{Members}
 use Rattle.zw_scope.specs.NameRules.{mentioned_by}
 use Rattle.std.specs.Option.{option_to_list}
-use Rattle.zw_scope.proofs.PlaceLemmas.{standing-within}
-use Rattle.zw_scope.specs.Scopes.{Standing, all_standing, declared}
-use Rattle.zw_scope.specs.declared.lists.Lists.{Lists}
-use Rattle.zw_scope.proofs.ListLemmas.{got-kept, got-last}
+use Rattle.zw_scope_sites.proofs.PlaceLemmas.{standing-within}
+use Rattle.zw_scope_sites.specs.Scopes.{Standing, all_standing, declared}
+use Rattle.zw_scope_sites.specs.declared.lists.Lists.{Lists}
+use Rattle.zw_scope_sites.proofs.ListLemmas.{got-kept, got-last}
 
 -- one item more
 pub each-more : {X : Type 0} (P : ℕ → X → Type 0) (xs ys : List X) (x : X) (n : ℕ) → ys ≡ xs ++ x ∷ [] → length xs ≡ n → ((m : ℕ) → m < n → (o : X) × (slice_get xs m ≡ Some o) × P m o) → P n x → (m : ℕ) → m < n + 1 → (o : X) × (slice_get ys m ≡ Some o) × P m o

@@ -3,16 +3,10 @@ use Rattle.std.proofs.Common.{zero, slice_get, ◌⊎◌, inl, inr, ◌≡◌, �
 use Rattle.std.specs.List.{list_any}
 use Rattle.std.specs.Str.{bytes_eq}
 use Rattle.std.proofs.lemmas.Bool.{false≢true}
-use Rattle.std.proofs.lemmas.Slice.Eq.{bytes_eq-Decides}
 use Rattle.zw_token.specs.Names.{is_sized_name, primitive_names, IsPrimitiveName}
 use Rattle.zw_token.specs.Tables.{IsIn}
+use Rattle.zw_scope_sites.proofs.SetLemmas.{bytes_eq-same, same_bytes}
 use Rattle.zw_scope.specs.NameRules.{is_primitive}
-
-pub same_bytes : (x y : List ℕ) → bytes_eq x y ≡ true → x ≡ y
-same_bytes x y = (bytes_eq-Decides x y).0
-
-pub bytes_eq-same : (x y : List ℕ) → x ≡ y → bytes_eq x y ≡ true
-bytes_eq-same x y = (bytes_eq-Decides x y).1
 
 in_table : (table : List (List ℕ)) (name : List ℕ) (k : ℕ) → slice_get table k ≡ Some name → list_any (λ primitive. bytes_eq primitive name) table ≡ true
 in_table [] name k at = absurd (cc)

@@ -11,20 +11,19 @@ use Rattle.std.proofs.lemmas.List.Folds.{list_any-append}
 use Rattle.zw_tree.specs.Trees.{Forest, none, tree, count}
 use Rattle.zw_tree.specs.Numbering.{from, first_root, below, children}
 use Rattle.zw_tree.specs.declared.ast.Entry.{Entry}
-use Rattle.zw_scope.specs.Firsts.{after, kind_at, text_at}
-use Rattle.zw_scope.specs.Scopes.{is_name, kind_of, name_in}
+use Rattle.zw_scope_sites.specs.Firsts.{after, kind_at, text_at}
+use Rattle.zw_scope_sites.specs.Scopes.{is_name, kind_of, name_in, is_named_member, is_parameter_kind, is_initialiser}
 use Rattle.zw_tree.specs.declared.kind.NodeKind.{NodeKind}
-use Rattle.zw_scope.specs.NameRules.{Violation, is_named_member, is_parameter_kind, is_initialiser, listed, names_of, own_names, repeated, told, told_at_name}
+use Rattle.zw_scope.specs.NameRules.{Violation, listed, names_of, own_names, repeated, told, told_at_name}
 use Rattle.zw_scope.specs.Repeats.{Passes, Repeats, entries, names_by}
 use Rattle.zw_scope.specs.Telling.{tells}
 use Rattle.zw_scope.specs.declared.repeats.Named.{Named}
 use Rattle.zw_scope.specs.declared.repeats.Named.TheVariants.{Members, Parameters, Initialisers, Errors}
-use Rattle.zw_scope.proofs.SayLemmas.{IsChildAt, child-at, child-item, items-end}
-use Rattle.zw_scope.proofs.SetLemmas.{any-Contains, any-absent}
-use Rattle.zw_scope.proofs.PrimitiveLemmas.{same_bytes}
+use Rattle.zw_scope_sites.proofs.SayLemmas.{IsChildAt, child-at, child-item, items-end}
+use Rattle.zw_scope_sites.proofs.SetLemmas.{any-Contains, any-absent, same_bytes}
 use Rattle.std.proofs.lemmas.List.Elements.{All-push}
-use Rattle.zw_scope.proofs.SiteLemmas.{IsThere, is-there}
-use Rattle.zw_scope.proofs.Standing.{from-there}
+use Rattle.zw_scope_sites.proofs.SiteLemmas.{IsThere, is-there}
+use Rattle.zw_scope_sites.proofs.Standing.{from-there}
 
 pub node-within : (file : Forest Entry) (n : ℕ) (root : Entry) (inside behind : Forest Entry) → from file n ≡ tree root inside behind → n < count file
 node-within file n root inside behind h = let size = ap count h in from-there file n (omega (arith, size))

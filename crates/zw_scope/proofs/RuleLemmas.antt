@@ -1,49 +1,22 @@
 -- The rules at a node, in what is read from it.
-use Rattle.std.proofs.Common.{◌≡◌, ℕ, ◌<◌, List, [], ◌∷◌, Option, Some, None, MatchOption, Bool, true, false, ◌&&◌, ◌||◌, refl, sym, ap, ◌∙◌, if◌then◌else◌}
+use Rattle.std.proofs.Common.{◌≡◌, ℕ, ◌<◌, List, [], ◌∷◌, Option, Some, Bool, true, false, ◌&&◌, ◌||◌, refl, sym, ap, ◌∙◌, if◌then◌else◌}
 use Rattle.std.specs.Prelude.{not, unwrap_or, slice_get}
 use mathlib.Core.Bool.{beq}
 use Rattle.zw_tree.specs.Trees.{Forest, none, tree, count}
 use Rattle.zw_tree.specs.Numbering.{from, first_root, inside_first, below}
 use Rattle.zw_tree.specs.declared.ast.Entry.{Entry}
-use Rattle.zw_scope.specs.Firsts.{kind_at, text_at}
-use Rattle.std.specs.Option.{is_some}
+use Rattle.zw_scope_sites.specs.Firsts.{kind_at, text_at}
 use Rattle.std.specs.List.{list_any}
-use Rattle.std.specs.Str.{bytes_eq}
 use Rattle.zw_scope.specs.Telling.{AreMarks, IsRead, tells}
-use Rattle.zw_scope.specs.declared.lists.Lists.{Lists}
-use Rattle.zw_scope.specs.declared.lists.OpenLabel.{OpenLabel}
-use Rattle.zw_scope.specs.declared.sites.Site.{Site}
-use Rattle.zw_scope.proofs.SiteLemmas.{IsThere, is-there}
-use Rattle.zw_scope.specs.NameRules.{is_declared, is_local, is_repeated, is_shadow, is_visible_local, is_mentioned, is_to_be_mentioned, unused, unused_at, breaks_label_rule, is_open, label_at, label_takes, labels, open_label, opens_label, takes_jump, told, told_at_name, is_primitive, is_unquoted, names_primitive}
-use Rattle.zw_scope.specs.Scopes.{Scope, Standing, binds, is_label, kind_of, name_in}
+use Rattle.zw_scope_sites.specs.declared.lists.Lists.{Lists}
+use Rattle.zw_scope_sites.specs.declared.sites.Site.{Site}
+use Rattle.zw_scope_sites.proofs.SiteLemmas.{IsThere, is-there}
+use Rattle.zw_scope.specs.NameRules.{is_declared, is_local, is_repeated, is_shadow, is_mentioned, is_to_be_mentioned, unused, unused_at, breaks_label_rule, label_at, label_takes, labels, takes_jump, told, told_at_name, is_primitive, names_primitive}
+use Rattle.zw_scope_sites.specs.Scopes.{is_visible_local, is_open, open_label, opens_label, is_unquoted, Scope, Standing, binds, is_label, kind_of, name_in}
 
 pub primitive-read : (f : Forest Entry) (entry : Entry) → first_root f ≡ Some entry → names_primitive entry ≡ (is_unquoted (kind_at f) && is_primitive (text_at f))
 primitive-read none entry h = absurd (cc)
 primitive-read (tree root inside behind) entry h = let same : root ≡ entry = cc in ap names_primitive (sym same)
-
-step-open : (l : OpenLabel) (ls : List OpenLabel) (name : List ℕ) (t : Bool) → bytes_eq l.name name ≡ t → open_label (l ∷ ls) name ≡ (if t then Some l else open_label ls name)
-step-open l ls name t e = ap (λ (u : Bool). if u then Some l else open_label ls name) e
-
-none-by : (l : OpenLabel) (ls : List OpenLabel) (name : List ℕ) (t : Bool) → bytes_eq l.name name ≡ t → open_label (l ∷ ls) name ≡ None → (open_label ls name ≡ None → is_open ls name ≡ false) → (bytes_eq l.name name || is_open ls name) ≡ false
-none-by l ls name true e h rest = let found = step-open l ls name true e in absurd (cc)
-none-by l ls name false e h rest = rw e (rest (sym (step-open l ls name false e) ∙ h))
-
-open-none : (ls : List OpenLabel) (name : List ℕ) → open_label ls name ≡ None → is_open ls name ≡ false
-open-none [] name h = refl
-open-none (l ∷ ls) name h = none-by l ls name (bytes_eq l.name name) refl h (open-none ls name)
-
-some-by : (l found : OpenLabel) (ls : List OpenLabel) (name : List ℕ) (t : Bool) → bytes_eq l.name name ≡ t → open_label (l ∷ ls) name ≡ Some found → (open_label ls name ≡ Some found → is_open ls name ≡ true) → (bytes_eq l.name name || is_open ls name) ≡ true
-some-by l found ls name true e h rest = rw e refl
-some-by l found ls name false e h rest = rw e (rest (sym (step-open l ls name false e) ∙ h))
-
-open-some : (ls : List OpenLabel) (name : List ℕ) (found : OpenLabel) → open_label ls name ≡ Some found → is_open ls name ≡ true
-open-some [] name found h = absurd (cc)
-open-some (l ∷ ls) name found h = some-by l found ls name (bytes_eq l.name name) refl h (open-some ls name found)
-
--- a label is open where a look-up finds it
-pub open-found : {X : Type 0} (label_of : X → OpenLabel) (o : Option X) (ls : List OpenLabel) (name : List ℕ) → MatchOption o (open_label ls name ≡ None) (λ x. open_label ls name ≡ Some (label_of x)) → is_some o ≡ is_open ls name
-open-found label_of None ls name h = sym (open-none ls name h)
-open-found label_of (Some x) ls name h = sym (open-some ls name (label_of x) h)
 
 breaks-beq : (a b : Bool) → breaks_label_rule a b ≡ beq a b
 breaks-beq true true = refl

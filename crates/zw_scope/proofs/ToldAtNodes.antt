@@ -5,8 +5,8 @@ use Rattle.std.proofs.lemmas.List.Concat.{flat_map-cons}
 use Rattle.std.proofs.lemmas.List.Elements.{All-cons, All-contains}
 use Rattle.std.specs.Prelude.{not, ◌&&◌, ◌||◌}
 use Rattle.std.specs.Str.{bytes_eq}
-use Rattle.zw_scope.specs.NameRules.{Violation, violations, violations_at, mentioned, told, is_shadow, shadow_at, shadows, unknowns, unused_at, unused, is_to_be_mentioned, is_repeated, is_mentioned, names_once, names_of, own_names, listed, is_named_member, is_parameter_kind, is_initialiser, repeated, duplicates, label_at, labels, flows, breaks_label_rule, opens_label, is_open, is_identifier, names_primitive, is_nothing, named_by, takes, is_local, is_declared}
-use Rattle.zw_scope.specs.Scopes.{Around, Standing, standing, all_standing, around_of, around_file, behind_child, scope_of, kind_of, name_in, is_name, is_label}
+use Rattle.zw_scope.specs.NameRules.{Violation, violations, violations_at, mentioned, told, is_shadow, shadow_at, shadows, unknowns, unused_at, unused, is_to_be_mentioned, is_repeated, is_mentioned, names_once, names_of, own_names, listed, repeated, duplicates, label_at, labels, flows, breaks_label_rule, names_primitive, is_nothing, named_by, takes, is_local, is_declared}
+use Rattle.zw_scope_sites.specs.Scopes.{is_named_member, is_parameter_kind, is_initialiser, opens_label, is_open, is_identifier, Around, Standing, standing, all_standing, around_of, around_file, behind_child, scope_of, kind_of, name_in, is_name, is_label}
 use Rattle.zw_tree.specs.Trees.{Forest, none, tree, count}
 use Rattle.zw_tree.specs.declared.ast.Entry.{Entry}
 use Rattle.zw_tree.specs.declared.kind.NodeKind.{NodeKind}

@@ -8,7 +8,7 @@ use Rattle.zw_tree.specs.Trees.{count}
 use Rattle.zw_tree.specs.Numbering.{first_root, from}
 use Rattle.zw_scope.specs.declared.told.Told.{Told}
 use Rattle.zw_scope.specs.Telling.{IsFirstOf, IsLeast, IsToldFirst, tells}
-use Rattle.zw_scope.proofs.SiteLemmas.{IsThere, is-there}
+use Rattle.zw_scope_sites.proofs.SiteLemmas.{IsThere, is-there}
 use Rattle.zw_scope.specs.NameRules.{told_at_name, Violation, NotBehind, IsFirstViolation, AreNamed, violations}
 
 pub contains-head : {X : Type 0} (x : X) (xs : List X) → Contains (x ∷ xs) x

@@ -1,11 +1,5 @@
-pub mod Scopes
 pub mod NameRules
 pub mod WorkedNames
-pub mod Firsts
-pub mod Tables
-pub mod Lists
-pub mod Sites
-pub mod Placing
 pub mod Telling
 pub mod Repeats
 pub mod MembersOf

@@ -4,10 +4,10 @@ use Rattle.std.specs.Option.{option_to_list}
 use Rattle.zw_tree.specs.Numbering.{below}
 use Rattle.zw_tree.specs.Trees.{Forest, count}
 use Rattle.zw_tree.specs.declared.ast.Entry.{Entry}
-use Rattle.zw_scope.specs.Lists.{IsBindings}
+use Rattle.zw_scope_sites.specs.Lists.{IsBindings}
 use Rattle.zw_scope.specs.NameRules.{mentioned_by}
-use Rattle.zw_scope.specs.Scopes.{Standing, all_standing, declared}
-use Rattle.zw_scope.specs.declared.lists.Lists.{Lists}
+use Rattle.zw_scope_sites.specs.Scopes.{Standing, all_standing, declared}
+use Rattle.zw_scope_sites.specs.declared.lists.Lists.{Lists}
 use Rattle.zw_scope.specs.declared.members.Members.{Members}
 
 -- the node with this number, where it stands, names this one, if any

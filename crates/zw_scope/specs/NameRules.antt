@@ -9,10 +9,10 @@ use Rattle.zw_token.specs.Names.{is_sized_name, primitive_names}
 use Rattle.zw_tree.specs.Trees.{Forest, none, tree}
 use Rattle.zw_tree.specs.declared.ast.Entry.{Entry}
 use Rattle.zw_tree.specs.declared.kind.NodeKind.{NodeKind}
-use Rattle.zw_tree.specs.declared.kind.NodeKind.TheVariants.{Function, Parameter, Field, Name, Block, While, For, Break, Continue, Return, Try, Identifier, QuotedIdentifier, StructLiteral, AnonymousStruct, FieldInit, ErrorSet, Struct, Enum, Union, Root}
-use Rattle.zw_scope.specs.declared.lists.Binding.{Binding}
-use Rattle.zw_scope.specs.declared.lists.OpenLabel.{OpenLabel}
-use Rattle.zw_scope.specs.Scopes.{Scope, Standing, kind_of, is_name, is_block, is_capture, is_label, is_variable, is_inside_container, is_declaration, name_in, label_in, binds, has_name, innermost, all_standing}
+use Rattle.zw_tree.specs.declared.kind.NodeKind.TheVariants.{Function, Break, Continue, Return, Try, StructLiteral, AnonymousStruct, ErrorSet, Struct, Enum, Union, Root}
+use Rattle.zw_scope_sites.specs.declared.lists.Binding.{Binding}
+use Rattle.zw_scope_sites.specs.declared.lists.OpenLabel.{OpenLabel}
+use Rattle.zw_scope_sites.specs.Scopes.{Scope, Standing, kind_of, is_name, is_capture, is_label, is_variable, is_inside_container, is_declaration, name_in, label_in, binds, innermost, all_standing, is_unquoted, is_parameter_kind, is_identifier, is_named_member, is_initialiser, is_visible_local, ends_in_block, open_label, is_open, opens_label}
 
 -- a broken rule: the number of the error, and the node at which it is told
 pub record Violation : Type 0 where
@@ -31,18 +31,9 @@ told_at_name broken error (Some name) = told broken error name
 abbrev pub is_primitive : List ℕ → Bool
 is_primitive name = is_sized_name name || list_any (λ other. bytes_eq other name) primitive_names
 
-abbrev pub is_unquoted : NodeKind → Bool
-is_unquoted Name = true
-is_unquoted Identifier = true
-is_unquoted _ = false
-
 -- the name is written without quotes, and is that of a primitive
 abbrev pub names_primitive : Entry → Bool
 names_primitive entry = is_unquoted (kind_of entry) && is_primitive entry.name
-
-abbrev pub is_parameter_kind : NodeKind → Bool
-is_parameter_kind Parameter = true
-is_parameter_kind _ = false
 
 abbrev pub is_parameter : Standing → Bool
 is_parameter s = is_parameter_kind (kind_of s.entry)
@@ -62,9 +53,6 @@ is_declared s = is_inside_container s.parent && is_declaration (kind_of s.entry)
 
 -- Shadow (error 8): a local has the name of what is visible, or of a primitive; a declaration has that of a visible local, or of a
 -- primitive. Two parameters of one function are told as repeated alone.
-abbrev pub is_visible_local : List ℕ → Binding → Bool
-is_visible_local name binding = binding.is_local && has_name name binding
-
 abbrev pub is_shadow : Standing → Entry → Bool
 is_shadow s name =
     names_primitive name
@@ -81,11 +69,6 @@ shadows s = if is_local s || is_declared s then shadow_at s (name_in s.below) el
 -- what an identifier names, which is no primitive
 abbrev pub named_by : Standing → Option Binding
 named_by s = if names_primitive s.entry then None else innermost s.scope.visible s.entry.name
-
-abbrev pub is_identifier : NodeKind → Bool
-is_identifier Identifier = true
-is_identifier QuotedIdentifier = true
-is_identifier _ = false
 
 abbrev pub is_nothing : Option Binding → Bool
 is_nothing None = true
@@ -108,12 +91,6 @@ mentioned all = flat_map mentioned_by all
 
 abbrev pub is_mentioned : List ℕ → ℕ → Bool
 is_mentioned nodes node = list_any (nat_eq node) nodes
-
--- the last of the children is a block
-abbrev pub ends_in_block : Forest Entry → Bool
-ends_in_block none = false
-ends_in_block (tree root below none) = is_block (kind_of root)
-ends_in_block (tree root below (tree next inside behind)) = ends_in_block (tree next inside behind)
 
 -- a local that has to be mentioned: a parameter only where its function has a body
 abbrev pub is_to_be_mentioned : Standing → Bool
@@ -140,14 +117,6 @@ abbrev pub own_names : Forest Entry → List Entry
 own_names none = []
 own_names (tree root below behind) = (if is_name (kind_of root) then root ∷ [] else []) ++ own_names behind
 
-abbrev pub is_named_member : NodeKind → Bool
-is_named_member Field = true
-is_named_member kind = is_declaration kind
-
-abbrev pub is_initialiser : NodeKind → Bool
-is_initialiser FieldInit = true
-is_initialiser _ = false
-
 -- the names that a form may have once each
 abbrev pub names_once : NodeKind → Forest Entry → List Entry
 names_once Root below = names_of is_named_member below
@@ -167,21 +136,6 @@ repeated before (entry ∷ others) = told (list_any (bytes_eq entry.name) before
 
 abbrev pub duplicates : Standing → List Violation
 duplicates s = repeated [] (names_once (kind_of s.entry) s.below)
-
--- the innermost open label of a name
-abbrev pub open_label : List OpenLabel → List ℕ → Option OpenLabel
-open_label [] name = None
-open_label (label ∷ others) name = if bytes_eq label.name name then Some label else open_label others name
-
-abbrev pub is_open : List OpenLabel → List ℕ → Bool
-is_open labels name = list_any (λ (label : OpenLabel). bytes_eq label.name name) labels
-
--- what a label does where it stands: it names an open one, or opens one
-abbrev pub opens_label : Option NodeKind → Bool
-opens_label (Some Block) = true
-opens_label (Some While) = true
-opens_label (Some For) = true
-opens_label _ = false
 
 -- Label (error 12): a label that isn't open is named, or one that is open is opened once more
 abbrev pub breaks_label_rule : Bool → Bool → Bool

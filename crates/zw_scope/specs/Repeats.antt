@@ -1,20 +1,15 @@
 -- Repeats: the names that a form may have once each, read from its children.
-use Rattle.std.specs.Prelude.{ℕ, List, ◌∷◌, map, Vec, ◌≡◌, Option, Some, None, if◌then◌else◌}
+use Rattle.std.specs.Prelude.{ℕ, List, ◌∷◌, ◌≡◌, Option, Some, None, if◌then◌else◌}
 use Rattle.std.specs.List.{flat_map, list_any}
 use Rattle.std.specs.Str.{bytes_eq}
-use Rattle.zw_scope.specs.Firsts.{text_at}
-use Rattle.std.specs.declared.alloc.Global.{Global}
-use Rattle.indexmap.specs.IndexSet.{IndexSet}
+use Rattle.zw_scope_sites.specs.Firsts.{text_at}
 use Rattle.zw_tree.specs.Numbering.{first_root, from}
 use Rattle.zw_tree.specs.Trees.{Forest}
 use Rattle.zw_tree.specs.declared.ast.Entry.{Entry}
-use Rattle.zw_scope.specs.NameRules.{is_initialiser, is_named_member, is_parameter_kind, listed, names_of, own_names}
+use Rattle.zw_scope_sites.specs.Scopes.{is_initialiser, is_named_member, is_parameter_kind}
+use Rattle.zw_scope.specs.NameRules.{listed, names_of, own_names}
 use Rattle.zw_scope.specs.declared.repeats.Named.{Named}
 use Rattle.zw_scope.specs.declared.repeats.Named.TheVariants.{Members, Parameters, Initialisers, Errors}
-
--- the names of a set, in their order
-abbrev pub names_in : {S : Type 0} → IndexSet (Vec ℕ Global) S → List (List ℕ)
-names_in set = map (λ name. name.items) set.keys
 
 -- what the nodes with these numbers say
 abbrev pub entries : Forest Entry → List ℕ → List Entry

@@ -4,10 +4,10 @@ use Rattle.zw_tree.specs.Numbering.{first_root, from}
 use Rattle.zw_tree.specs.Trees.{Forest, tree, count}
 use Rattle.zw_tree.specs.declared.ast.Entry.{Entry}
 use Rattle.zw_scope.specs.NameRules.{Violation, NotBehind, is_mentioned, told_at_name}
-use Rattle.zw_scope.specs.Scopes.{Standing}
-use Rattle.zw_scope.specs.Sites.{IsSite}
-use Rattle.zw_scope.specs.declared.lists.Lists.{Lists}
-use Rattle.zw_scope.specs.declared.sites.Site.{Site}
+use Rattle.zw_scope_sites.specs.Scopes.{Standing}
+use Rattle.zw_scope_sites.specs.Sites.{IsSite}
+use Rattle.zw_scope_sites.specs.declared.lists.Lists.{Lists}
+use Rattle.zw_scope_sites.specs.declared.sites.Site.{Site}
 use Rattle.zw_scope.specs.declared.told.Told.{Told}
 
 -- the violation of an error at a node, if any

@@ -1,9 +1,9 @@
 // The names of a tree: which of its nodes are mentioned, and the first violation.
 ghost use Rattle.std.specs.Prelude.{◌≡◌, ◌<◌, ◌++◌, ℕ, List, IfErr, IfOk, OnOk, Some, slice_get};
-ghost use Rattle.zw_scope.specs.NameRules.{AreNamed, IsNameStop, Violation, ends_in_block, violations, mentioned_by, mentioned, violations_at};
+ghost use Rattle.zw_scope.specs.NameRules.{AreNamed, IsNameStop, Violation, violations, mentioned_by, mentioned, violations_at};
+ghost use Rattle.zw_scope_sites.specs.Scopes.{ends_in_block, Standing, all_standing};
 ghost use Rattle.std.specs.Option.{option_to_list};
-ghost use Rattle.zw_scope.specs.Placing.{AllPlaced};
-ghost use Rattle.zw_scope.specs.Scopes.{Standing, all_standing};
+ghost use Rattle.zw_scope_sites.specs.Placing.{AllPlaced};
 ghost use Rattle.zw_scope.specs.Telling.{AreMarks, IsFirstOf};
 ghost use Rattle.zw_tree.specs.Numbering.{first_root, from};
 ghost use Rattle.zw_tree.specs.Trees.{Forest, count};
@@ -12,13 +12,13 @@ ghost use Rattle.zw_base.specs.declared.stop.Refused.TheVariants as refused;
 ghost use Rattle.zw_base.specs.declared.stop.Stop.{Stop};
 ghost use Rattle.zw_base.specs.declared.stop.StopKind.TheVariants.{Error};
 
-use crate::nodes::roots_end_in_block;
-use crate::place::{Sites, placed, site_at};
 use crate::repeats::tell_duplicates;
 use crate::rules::{flow_at, label_at, named_at, shadow_at, unknown_at, unused_at};
 use crate::told::{Told, tell};
 use std::alloc::Global;
 use zw_base::{Oom, Refused, Stop, StopKind};
+use zw_scope_sites::nodes::roots_end_in_block;
+use zw_scope_sites::place::{Sites, placed, site_at};
 use zw_tree::Ast;
 
 /// The node that the node with this number names, if any.

@@ -2,17 +2,10 @@
 #![tactic(auto)]
 
 mod check;
-mod kinds;
 mod laws;
-mod lists;
 mod members;
-mod names;
-mod nodes;
-mod place;
 mod repeats;
 mod rules;
-mod sites;
-mod tables;
 mod told;
 
 pub use check::check_names;

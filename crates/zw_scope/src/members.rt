@@ -3,19 +3,19 @@ ghost use Rattle.std.specs.Prelude.{◌≡◌, ◌<◌, ℕ, suc, Option, Some, 
 ghost use Rattle.std.specs.Option.{option_map, option_to_list};
 ghost use Rattle.zw_scope.specs.MembersOf.{AreMembers, Declares, Names};
 ghost use Rattle.zw_scope.specs.NameRules.{mentioned_by};
-ghost use Rattle.zw_scope.specs.Placing.{AllPlaced};
-ghost use Rattle.zw_scope.specs.Scopes.{Standing, all_standing, declared, innermost};
-ghost use Rattle.zw_scope.specs.declared.lists.Binding.{Binding};
+ghost use Rattle.zw_scope_sites.specs.Placing.{AllPlaced};
+ghost use Rattle.zw_scope_sites.specs.Scopes.{Standing, all_standing, declared, innermost};
+ghost use Rattle.zw_scope_sites.specs.declared.lists.Binding.{Binding};
 ghost use Rattle.zw_tree.specs.Numbering.{below};
 ghost use Rattle.zw_tree.specs.Trees.{Forest, count};
 ghost use Rattle.zw_tree.specs.declared.ast.Entry.{Entry};
 
 use crate::check::named;
-use crate::lists::{Lists, innermost, new_lists};
-use crate::place::{Sites, placed};
-use crate::sites::declare;
 use std::alloc::Global;
 use zw_base::Oom;
+use zw_scope_sites::lists::{Lists, innermost, new_lists};
+use zw_scope_sites::place::{Sites, placed};
+use zw_scope_sites::sites::declare;
 use zw_tree::Ast;
 
 /// What each identifier of a tree names, and what each container declares.

@@ -1,21 +1,22 @@
 // Names that an earlier one of the same form has.
 ghost use Rattle.std.specs.Prelude.{◌≡◌, ◌<◌, ◌++◌, ◌∷◌, [], ℕ, List, All, IfOk, IfSome, OnOk, MatchOption};
 ghost use Rattle.std.specs.Option.{option_to_list};
-ghost use Rattle.zw_scope.specs.Firsts.{kind_at};
+ghost use Rattle.zw_scope_sites.specs.Firsts.{kind_at};
 ghost use Rattle.zw_scope.specs.NameRules.{Violation, names_once, repeated};
-ghost use Rattle.zw_scope.specs.Repeats.{Passes, Repeats, entries, names_by, names_in};
+ghost use Rattle.zw_scope.specs.Repeats.{Passes, Repeats, entries, names_by};
+ghost use Rattle.zw_scope_sites.specs.Lists.{names_in};
 ghost use Rattle.zw_scope.specs.Telling.{IsFirstOf};
 ghost use Rattle.zw_tree.specs.Numbering.{below, from};
 ghost use Rattle.zw_tree.specs.Trees.{Forest, count, none, tree};
 ghost use Rattle.zw_tree.specs.declared.ast.Entry.{Entry};
 
-use crate::kinds::{is_initialiser, is_name, is_named_member, is_parameter};
-use crate::names::insert;
-use crate::nodes::{children, kind, name_in, text};
 use crate::told::{Told, tell};
 use indexmap::IndexSet;
 use std::alloc::Global;
 use zw_base::Oom;
+use zw_scope_sites::kinds::{is_initialiser, is_name, is_named_member, is_parameter};
+use zw_scope_sites::names::insert;
+use zw_scope_sites::nodes::{children, kind, name_in, text};
 use zw_tree::{Ast, NodeKind};
 
 /// Which of the children of a form have names that it may have once each.

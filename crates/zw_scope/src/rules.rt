@@ -2,23 +2,23 @@
 ghost use Rattle.std.specs.Prelude.{◌≡◌, ◌<◌, ◌&&◌, ℕ, List, IfSome, Some, true, false, not, slice_get, unwrap_or};
 ghost use Rattle.std.specs.Option.{option_to_list};
 ghost use Rattle.std.specs.List.{list_any};
-ghost use Rattle.zw_scope.specs.Firsts.{kind_at};
-ghost use Rattle.zw_scope.specs.NameRules.{ends_in_block, flows, is_declared, is_parameter, unused, is_local, is_primitive, is_repeated, is_shadow, is_to_be_mentioned, is_visible_local, label_takes, labels, loop_takes, mentioned_by, names_primitive, shadows, takes, takes_jump, takes_return, unknowns};
-ghost use Rattle.zw_scope.specs.Scopes.{Scope, Standing, binds, label_in};
-ghost use Rattle.zw_scope.specs.Sites.{Shows};
+ghost use Rattle.zw_scope_sites.specs.Firsts.{kind_at};
+ghost use Rattle.zw_scope_sites.specs.Scopes.{ends_in_block, is_visible_local, Scope, Standing, binds, label_in};
+ghost use Rattle.zw_scope.specs.NameRules.{flows, is_declared, is_parameter, unused, is_local, is_primitive, is_repeated, is_shadow, is_to_be_mentioned, label_takes, labels, loop_takes, mentioned_by, names_primitive, shadows, takes, takes_jump, takes_return, unknowns};
+ghost use Rattle.zw_scope_sites.specs.Sites.{Shows};
 ghost use Rattle.zw_scope.specs.Telling.{AreMarks, IsRead, tells};
 ghost use Rattle.zw_tree.specs.Numbering.{below, first_root, from};
 ghost use Rattle.zw_tree.specs.Trees.{count, tree};
 ghost use Rattle.zw_tree.specs.declared.ast.Entry.{Entry};
-ghost use Rattle.zw_scope.specs.declared.lists.Lists.{Lists};
+ghost use Rattle.zw_scope_sites.specs.declared.lists.Lists.{Lists};
 
-use crate::kinds::{
+use zw_scope_sites::kinds::{
     is_capture, is_declaration, is_identifier, is_inside_container, is_label, is_parameter,
     is_unquoted, is_variable, opens_label,
 };
-use crate::lists::{Lists, OpenLabel, binds, innermost, is_open, open_label, sees_local};
-use crate::nodes::{ends_in_block, kind, label_in, name_in, text};
-use crate::sites::{Site, View};
+use zw_scope_sites::lists::{Lists, OpenLabel, binds, innermost, is_open, open_label, sees_local};
+use zw_scope_sites::nodes::{ends_in_block, kind, label_in, name_in, text};
+use zw_scope_sites::sites::{Site, View};
 use zw_token::is_primitive_name;
 use zw_tree::{Ast, NodeKind};
 

@@ -5,7 +5,7 @@ ghost use Rattle.zw_scope.specs.Telling.{IsFirstOf, tells};
 ghost use Rattle.zw_tree.specs.Numbering.{first_root, from};
 ghost use Rattle.zw_tree.specs.Trees.{count};
 
-use crate::nodes::first_token;
+use zw_scope_sites::nodes::first_token;
 use zw_tree::Ast;
 
 /// A violation: the number of the error, and the node at which it is told.

@@ -1,9 +1,9 @@
 use Rattle.std.proofs.Common.{[], ◌∙◌, sym, ap}
 use Rattle.zw_scope.specs.NameRules.{repeated, names_once}
-use Rattle.zw_scope.specs.Firsts.{kind_at}
+use Rattle.zw_scope_sites.specs.Firsts.{kind_at}
 use Rattle.zw_tree.specs.Numbering.{inside_first}
 use Rattle.zw_scope.proofs.CheckLemmas.{six-more}
-use Rattle.zw_scope.proofs.PlaceLemmas.{read-is, no-site}
+use Rattle.zw_scope.proofs.ReadLemmas.{read-is, no-site}
 use Rattle.zw_scope.proofs.check.check_node.Goals as goal
 
 pub returns-in_default : goal.returns-in_default

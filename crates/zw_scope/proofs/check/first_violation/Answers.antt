@@ -1,9 +1,9 @@
 use Rattle.std.proofs.Common.{List, Bool, sym, subst, arith}
 use Rattle.zw_scope.specs.NameRules.{mentioned}
-use Rattle.zw_scope.specs.Scopes.{all_standing}
+use Rattle.zw_scope_sites.specs.Scopes.{all_standing}
 use Rattle.zw_scope.specs.Telling.{AreMarks}
 use Rattle.zw_scope.proofs.CheckLemmas.{violations-next, violations-whole}
-use Rattle.zw_scope.proofs.PlaceLemmas.{node-placed}
+use Rattle.zw_scope_sites.proofs.PlaceLemmas.{node-placed}
 use Rattle.zw_scope.proofs.check.first_violation.Goals as goal
 
 pub loop-n-preserved : goal.loop-n-preserved

@@ -1,7 +1,7 @@
 use Rattle.std.proofs.Common.{take}
 use Rattle.std.specs.List.{flat_map}
 use Rattle.zw_scope.specs.NameRules.{mentioned, violations_at}
-use Rattle.zw_scope.specs.Scopes.{all_standing}
+use Rattle.zw_scope_sites.specs.Scopes.{all_standing}
 use Rattle.zw_scope.specs.Telling.{IsFirstOf}
 use Rattle.zw_scope.proofs.check.first_violation.Given as goal
 

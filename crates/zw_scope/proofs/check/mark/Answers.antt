@@ -2,7 +2,7 @@ use Rattle.std.proofs.Common.{Option, ℕ, ◌++◌, ap, length, true, sym, subs
 use Rattle.std.specs.Prelude.{slice_set}
 use Rattle.std.specs.Option.{option_to_list}
 use Rattle.zw_scope.specs.Telling.{AreMarks}
-use Rattle.zw_scope.proofs.PlaceLemmas.{marked, unmarked}
+use Rattle.zw_scope.proofs.MarkLemmas.{marked, unmarked}
 use Rattle.zw_scope.proofs.check.mark.Goals as goal
 
 pub returns-then-at-as_slice : goal.returns-then-at-as_slice

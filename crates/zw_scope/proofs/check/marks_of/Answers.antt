@@ -1,5 +1,5 @@
 use Rattle.std.proofs.Common.{arith}
-use Rattle.zw_scope.proofs.PlaceLemmas.{mentioned-next, mentioned-whole}
+use Rattle.zw_scope.proofs.MarkLemmas.{mentioned-next, mentioned-whole}
 use Rattle.zw_scope.proofs.check.marks_of.Goals as goal
 
 pub loop-n-preserved : goal.loop-n-preserved

@@ -1,6 +1,6 @@
 use Rattle.std.proofs.Common.{take}
 use Rattle.zw_scope.specs.NameRules.{mentioned}
-use Rattle.zw_scope.specs.Scopes.{all_standing}
+use Rattle.zw_scope_sites.specs.Scopes.{all_standing}
 use Rattle.zw_scope.specs.Telling.{AreMarks}
 use Rattle.zw_scope.proofs.check.marks_of.Given as goal
 

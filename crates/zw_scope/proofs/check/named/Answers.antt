@@ -1,5 +1,5 @@
 use Rattle.std.proofs.Common.{◌∙◌, sym}
-use Rattle.zw_scope.proofs.PlaceLemmas.{read-is, no-site}
+use Rattle.zw_scope.proofs.ReadLemmas.{read-is, no-site}
 use Rattle.zw_scope.proofs.check.named.Goals as goal
 
 pub returns-in-Some : goal.returns-in-Some

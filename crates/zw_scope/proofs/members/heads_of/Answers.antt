@@ -1,5 +1,5 @@
 use Rattle.std.proofs.Common.{[]}
-use Rattle.zw_scope.proofs.BoundLemmas.{nothing-bound}
+use Rattle.zw_scope_sites.proofs.BoundLemmas.{nothing-bound}
 use Rattle.zw_scope.specs.MembersOf.{Declares}
 use Rattle.zw_scope.proofs.MemberLemmas.{each-more, sized-more, declares-kept, declares-now}
 use Rattle.zw_scope.proofs.members.heads_of.Goals as goal

@@ -1,6 +1,6 @@
 use Rattle.std.proofs.Common.{[], ◌∷◌, ◌++◌, List, get_or, append-nil, append_assoc, refl, sym, subst, arith}
 use Rattle.zw_tree.specs.Numbering.{from}
-use Rattle.zw_scope.specs.Firsts.{text_at}
+use Rattle.zw_scope_sites.specs.Firsts.{text_at}
 use Rattle.zw_scope.specs.NameRules.{Violation}
 use Rattle.zw_scope.specs.Telling.{IsFirstOf, tells}
 use Rattle.zw_scope.proofs.RepeatLemmas.{any-none, repeated-next, repeated-end}

@@ -1,5 +1,5 @@
 use Rattle.std.proofs.Common.{◌∙◌, sym}
-use Rattle.zw_scope.proofs.PlaceLemmas.{body-behind, root-body}
+use Rattle.zw_scope.proofs.ReadLemmas.{body-behind, root-body}
 use Rattle.zw_scope.proofs.rules.has_body.Goals as goal
 
 pub returns-in-Some : goal.returns-in-Some

@@ -1,6 +1,5 @@
 use Rattle.std.proofs.Common.{◌∙◌, sym, ap}
-use Rattle.zw_scope.specs.NameRules.{opens_label}
-use Rattle.zw_scope.specs.Scopes.{is_label}
+use Rattle.zw_scope_sites.specs.Scopes.{opens_label, is_label}
 use Rattle.zw_scope.proofs.RuleLemmas.{label-told, label-kept}
 use Rattle.zw_scope.proofs.rules.label_at.Goals as goal
 

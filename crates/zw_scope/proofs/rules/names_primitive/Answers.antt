@@ -1,8 +1,9 @@
 use Rattle.std.proofs.Common.{◌∙◌, sym, ap}
-use Rattle.zw_scope.specs.NameRules.{is_unquoted, is_primitive}
+use Rattle.zw_scope_sites.specs.Scopes.{is_unquoted}
+use Rattle.zw_scope.specs.NameRules.{is_primitive}
 use Rattle.zw_scope.proofs.RuleLemmas.{primitive-read, both-true, both-false}
 use Rattle.zw_tree.specs.Numbering.{from}
-use Rattle.zw_scope.specs.Firsts.{kind_at, text_at}
+use Rattle.zw_scope_sites.specs.Firsts.{kind_at, text_at}
 use Rattle.zw_scope.proofs.rules.names_primitive.Goals as goal
 
 pub returns-then-is_unquoted : goal.returns-then-is_unquoted

@@ -1,8 +1,8 @@
 use Rattle.std.proofs.Common.{◌∙◌, suc, sym, ap}
 use Rattle.std.specs.Option.{option_map}
 use Rattle.zw_tree.specs.Numbering.{below}
-use Rattle.zw_scope.specs.Scopes.{declared}
-use Rattle.zw_scope.specs.declared.lists.Binding.{Binding}
+use Rattle.zw_scope_sites.specs.Scopes.{declared}
+use Rattle.zw_scope_sites.specs.declared.lists.Binding.{Binding}
 use Rattle.zw_scope.proofs.MemberLemmas.{head-declares, no-head}
 use Rattle.zw_scope.proofs.members.Members.find.Goals as goal
 

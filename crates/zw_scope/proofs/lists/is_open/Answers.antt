@@ -1,7 +1,0 @@
-use Rattle.std.proofs.Common.{◌∙◌, Bor}
-use Rattle.zw_scope.specs.declared.lists.OpenLabel.{OpenLabel}
-use Rattle.zw_scope.proofs.RuleLemmas.{open-found}
-use Rattle.zw_scope.proofs.lists.is_open.Goals as goal
-
-pub returns : goal.returns
-returns c = λ ls h. c.is_some.ensures ∙ open-found (λ (l : Bor OpenLabel). l.now) c.open_label.result ls c.args.name.now (c.open_label.ensures ls h)

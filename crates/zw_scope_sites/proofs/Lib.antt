@@ -1,0 +1,11 @@
+pub mod Standing
+pub mod SayLemmas
+pub mod TableLemmas
+pub mod SetLemmas
+pub mod NumberLemmas
+pub mod ListLemmas
+pub mod BoundLemmas
+pub mod SiteLemmas
+pub mod PlacingLemmas
+pub mod RootLemmas
+pub mod PlaceLemmas
