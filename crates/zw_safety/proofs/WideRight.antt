@@ -10,22 +10,22 @@ use Rattle.zw_num.specs.declared.int_ty.IntTy.TheVariants.{Sized, Comptime}
 use Rattle.zw_num.specs.declared.op.TheConstants.{ADD, SUB, MUL, ADD_WRAP, SUB_WRAP, MUL_WRAP, BYTE_SWAP}
 use Rattle.zw_safety_narrow.proofs.NarrowRuns.{addition, subtraction, multiplication}
 use Rattle.zw_safety_narrow.proofs.ServedRight.{by_test, each_among, served_right}
-use Rattle.zw_safety_wide.proofs.WideBitRight.{AreStored, wide_and-right, wide_or-right, wide_xor-right, wide_equal-right, wide_not_equal-right, wide_less-right, wide_less_or_equal-right, wide_greater-right, wide_greater_or_equal-right, wide_min-right, wide_max-right, wide_shl-right, wide_shr-right, wide_neg-right, wide_not-right, wide_neg_wrap-right, wide_as-right, wide_from_bool-right, wide_truncate-right, wide_bit_cast-right}
 use Rattle.zw_safety_wide.proofs.WideCastRight.{wide_cast-right, wide_abs-right, wide_clz-right, wide_ctz-right, wide_pop_count-right}
 use Rattle.zw_safety_wide.proofs.WideReversalRight.{wide_byte_swap-right, wide_bit_reverse-right}
 use Rattle.zw_safety_wide.proofs.WideSaturatingRight.{wide_add_sat-right, wide_sub_sat-right, wide_mul_sat-right}
 use Rattle.zw_safety_wide.proofs.WideShareRight.{wide_div-right, wide_rem-right, wide_div_trunc-right, wide_rem_trunc-right, wide_div_floor-right, wide_mod-right, wide_div_exact-right}
 use Rattle.zw_safety_wide.proofs.WideShiftRight.{wide_shl_exact-right, wide_shr_exact-right, wide_shl_sat-right}
-use Rattle.zw_safety_wide.proofs.WideTruthRight.{wide_is_false-right}
-use Rattle.zw_safety_wide.proofs.WideClosed.{wide_wrapped-closed, wide_sum-closed, wide_difference-closed, wide_product-closed}
-use Rattle.zw_safety_wide.proofs.WideProductRuns.{wide_product-ends}
-use Rattle.zw_safety_wide.proofs.WideRuns.{wide_wrapped-ends}
-use Rattle.zw_safety_wide.proofs.WideSums.{wide_sum-ends, wide_difference-ends}
-use Rattle.zw_safety_wide.proofs.WideTypes.{takes-wide_wrapped, takes-wide_sum, takes-wide_difference, takes-wide_product}
+use Rattle.zw_safety_words.proofs.WideBitRight.{AreStored, wide_and-right, wide_or-right, wide_xor-right, wide_equal-right, wide_not_equal-right, wide_less-right, wide_less_or_equal-right, wide_greater-right, wide_greater_or_equal-right, wide_min-right, wide_max-right, wide_shl-right, wide_shr-right, wide_neg-right, wide_not-right, wide_neg_wrap-right, wide_as-right, wide_from_bool-right, wide_truncate-right, wide_bit_cast-right}
+use Rattle.zw_safety_words.proofs.WideTruthRight.{wide_is_false-right}
+use Rattle.zw_safety_words.proofs.WideClosed.{wide_wrapped-closed, wide_sum-closed, wide_difference-closed, wide_product-closed}
+use Rattle.zw_safety_words.proofs.WideProductRuns.{wide_product-ends}
+use Rattle.zw_safety_words.proofs.WideRuns.{wide_wrapped-ends}
+use Rattle.zw_safety_words.proofs.WideSums.{wide_sum-ends, wide_difference-ends}
+use Rattle.zw_safety_words.proofs.WideTypes.{takes-wide_wrapped, takes-wide_sum, takes-wide_difference, takes-wide_product}
 use Rattle.zw_safety_narrow.specs.OperatorCode.{operator_code}
 use Rattle.zw_safety_narrow.specs.Operators.{IsNarrow, IsStored, IsServed, IsRight, IsRightOnOne, IsRightCode, is_among, operators_of_two, operators_of_one, fills_word, fill_words, writes_locals}
 use Rattle.zw_safety.specs.StoredCode.{wide_code_of_shares, wide_code_of_bounds, wide_code, stored_code}
-use Rattle.zw_safety_wide.specs.WideCode.{wide_wrapped_code, wide_sum_code, wide_difference_code, wide_product_code}
+use Rattle.zw_safety_words.specs.WideCode.{wide_wrapped_code, wide_sum_code, wide_difference_code, wide_product_code}
 use Rattle.zw_safety.specs.WideOperators.{IsServedWide, MayServe, wide_of_two, wide_of_one, is_wide_operator, last_type, goes_wide}
 use Rattle.zw_wasm.specs.declared.module.BinaryOperator.TheVariants.{Add, Sub, Mul}
 

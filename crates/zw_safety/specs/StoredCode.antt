@@ -3,16 +3,16 @@ use Rattle.std.specs.Prelude.{ℕ, nat_eq, List, [], if◌then◌else◌}
 use Rattle.zw_num.specs.declared.int_ty.IntTy.{IntTy}
 use Rattle.zw_num.specs.declared.op.TheConstants.{ADD, SUB, MUL, ADD_WRAP, SUB_WRAP, MUL_WRAP, BIT_AND, BIT_OR, BIT_XOR, EQUAL, NOT_EQUAL, LESS, LESS_OR_EQUAL, GREATER, GREATER_OR_EQUAL, MIN, MAX, SHL, SHR, DIV, REM, DIV_TRUNC, REM_TRUNC, DIV_FLOOR, MOD, NEG, BIT_NOT, NEG_WRAP, AS, INT_FROM_BOOL, TRUNCATE, BIT_CAST, INT_CAST, ABS, CLZ, CTZ, POP_COUNT, BYTE_SWAP, BIT_REVERSE, NOT, ADD_SAT, SUB_SAT, MUL_SAT, DIV_EXACT, SHL_EXACT, SHR_EXACT, SHL_SAT}
 use Rattle.zw_safety_narrow.specs.OperatorCode.{operator_code}
-use Rattle.zw_safety_wide.specs.WideBitCode.{wide_word_code, wide_left_code, wide_right_code, wide_minus_one, wide_same_code, wide_truncated_code, wide_opposite_code}
 use Rattle.zw_safety_wide.specs.WideCastCode.{wide_cast_code, wide_distance_code, wide_ones_code, wide_leading_code, wide_trailing_code}
-use Rattle.zw_safety_wide.specs.WideCode.{wide_sum_code, wide_difference_code, wide_product_code, wide_wrapped_code}
 use Rattle.zw_safety_wide.specs.WideReversalCode.{wide_byte_swap_code, wide_bit_reverse_code}
+use Rattle.zw_safety_words.specs.WideBitCode.{wide_word_code, wide_left_code, wide_right_code, wide_minus_one, wide_same_code, wide_truncated_code, wide_opposite_code}
+use Rattle.zw_safety_words.specs.WideCode.{wide_sum_code, wide_difference_code, wide_product_code, wide_wrapped_code}
 use Rattle.zw_safety.specs.WideOperators.{goes_wide}
 use Rattle.zw_safety_wide.specs.WideSaturatingCode.{wide_sum_sat_code, wide_difference_sat_code, wide_product_sat_code}
 use Rattle.zw_safety_wide.specs.WideShiftCode.{wide_left_exact_code, wide_right_exact_code, wide_left_sat_code}
 use Rattle.zw_safety_wide.specs.WideSignedCode.{wide_quotient_code, wide_rest_code, wide_modulo_code, wide_floor_code, wide_exact_quotient_code}
-use Rattle.zw_safety_wide.specs.WideTruthCode.{wide_not_code}
-use Rattle.zw_safety_wide.specs.WideOrderCode.{equal, not_equal, less, less_or_equal, greater, greater_or_equal, wide_comparison_code, wide_choice_code}
+use Rattle.zw_safety_words.specs.WideTruthCode.{wide_not_code}
+use Rattle.zw_safety_words.specs.WideOrderCode.{equal, not_equal, less, less_or_equal, greater, greater_or_equal, wide_comparison_code, wide_choice_code}
 use Rattle.zw_wasm.specs.declared.module.BinaryOperator.TheVariants.{Add, Sub, Mul, And, Or, Xor}
 use Rattle.zw_wasm.specs.declared.module.Instr.{Instr}
 

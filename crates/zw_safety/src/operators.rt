@@ -15,14 +15,17 @@ use zw_num::op::{
 };
 use zw_safety_narrow::push_operator;
 use zw_safety_wide::{
-    Compared, fill_words, push_wide_bit_reverse, push_wide_byte_swap, push_wide_cast,
-    push_wide_choice, push_wide_comparison, push_wide_difference, push_wide_difference_sat,
+    push_wide_bit_reverse, push_wide_byte_swap, push_wide_cast, push_wide_difference_sat,
     push_wide_distance, push_wide_exact_quotient, push_wide_floor, push_wide_leading,
-    push_wide_left, push_wide_left_exact, push_wide_left_sat, push_wide_minus_one,
-    push_wide_modulo, push_wide_not, push_wide_ones, push_wide_opposite, push_wide_product,
-    push_wide_product_sat, push_wide_quotient, push_wide_rest, push_wide_right,
-    push_wide_right_exact, push_wide_same, push_wide_sum, push_wide_sum_sat, push_wide_trailing,
-    push_wide_truncated, push_wide_word, push_wide_wrapped,
+    push_wide_left_exact, push_wide_left_sat, push_wide_modulo, push_wide_ones,
+    push_wide_product_sat, push_wide_quotient, push_wide_rest, push_wide_right_exact,
+    push_wide_sum_sat, push_wide_trailing,
+};
+use zw_safety_words::{
+    Compared, fill_words, push_wide_choice, push_wide_comparison, push_wide_difference,
+    push_wide_left, push_wide_minus_one, push_wide_not, push_wide_opposite, push_wide_product,
+    push_wide_right, push_wide_same, push_wide_sum, push_wide_truncated, push_wide_word,
+    push_wide_wrapped,
 };
 use zw_wasm::{BinaryOperator, Comparison, Instr};
 

@@ -1,19 +1,7 @@
-pub mod Appended
-pub mod WideWords
-pub mod WideRuns
-pub mod WideSums
-pub mod WideProducts
-pub mod WideProductRuns
-pub mod WideTypes
-pub mod WideClosed
-pub mod WideBitRuns
-pub mod WideOrderRuns
-pub mod WideBitRight
 pub mod WideCastRuns
 pub mod WideCastRight
 pub mod WideShareRuns
 pub mod WideShareRight
-pub mod WideAnswers
 pub mod WideShares
 pub mod WideSaturating
 pub mod WideSaturatingRuns
@@ -22,6 +10,5 @@ pub mod WideSaturatingRight
 pub mod WideShifts
 pub mod WideShiftRuns
 pub mod WideShiftRight
-pub mod WideTruthRight
 pub mod WideReversalRuns
 pub mod WideReversalRight

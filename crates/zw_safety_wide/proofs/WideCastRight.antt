@@ -10,12 +10,12 @@ use Rattle.zw_safety_narrow.proofs.NarrowTypes.{takes-long, takes-long_const, ta
 use Rattle.zw_safety_narrow.proofs.SaturatingRight.{takes-select_long, takes-tee_long}
 use Rattle.zw_safety_narrow.specs.Checked.{PanicStateIsTyped}
 use Rattle.zw_safety_narrow.specs.Operators.{IsStored, IsRightOnOne, type_of}
-use Rattle.zw_safety_wide.proofs.WideBitRight.{takes-settled}
 use Rattle.zw_safety_wide.proofs.WideCastRuns.{wide_cast-ends, wide_distance-ends, wide_ones-ends, wide_leading-ends, wide_trailing-ends}
-use Rattle.zw_safety_wide.proofs.WideClosed.{closed-then, if_closed, widened-closed, settled-closed}
-use Rattle.zw_safety_wide.proofs.WideTypes.{LongsAreTyped, longs, takes-widened}
 use Rattle.zw_safety_wide.specs.WideCastCode.{long_tested, long_above, long_outside, long_negative, long_cast, wide_cast_code, long_distance, wide_distance_code, own_long, wide_ones_code, less_zeros, wide_leading_code, long_at_most, wide_trailing_code}
-use Rattle.zw_safety_wide.specs.WideCode.{widened, settled}
+use Rattle.zw_safety_words.proofs.WideBitRight.{takes-settled}
+use Rattle.zw_safety_words.proofs.WideClosed.{closed-then, if_closed, widened-closed, settled-closed}
+use Rattle.zw_safety_words.proofs.WideTypes.{LongsAreTyped, longs, takes-widened}
+use Rattle.zw_safety_words.specs.WideCode.{widened, settled}
 use Rattle.zw_wasm.proofs.TypingTakes.{takes-none, takes-then, takes-instr, takes-local_get}
 use Rattle.zw_wasm.specs.declared.module.BinaryOperator.TheVariants.{Add, Sub, Mul, And}
 use Rattle.zw_wasm.specs.declared.module.Comparison.TheVariants.{LtS, LtU, GtU}

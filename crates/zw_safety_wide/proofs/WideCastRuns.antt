@@ -22,12 +22,12 @@ use Rattle.zw_safety_narrow.proofs.OrderRuns.{keeps-then, has-scratch}
 use Rattle.zw_safety_narrow.proofs.Pieces.{having, Steps, Fails, steps-none, steps-then, fails-behind, fails-before, steps-get, steps-long_const, steps-long, steps-compare_long, steps-passed, fails-panics}
 use Rattle.zw_safety_narrow.specs.Checked.{HasScratch, HasPanicState}
 use Rattle.zw_safety_narrow.specs.Operators.{IsStored, cause_of}
-use Rattle.zw_safety_wide.proofs.WideBitRuns.{Brings, brings, leaves_one, negated_bits, signed_fits, natural_low}
-use Rattle.zw_safety_wide.proofs.WideOrderRuns.{moved}
-use Rattle.zw_safety_wide.proofs.WideRuns.{Reaches, reaches, reaches-then, reaches-within, steps-settled, steps-widened}
-use Rattle.zw_safety_wide.proofs.WideWords.{lift_wide, masked_long, power_long}
 use Rattle.zw_safety_wide.specs.WideCastCode.{long_tested, long_above, long_outside, long_negative, long_cast, wide_cast_code, long_distance, wide_distance_code, own_long, less_zeros, long_at_most}
-use Rattle.zw_safety_wide.specs.WideCode.{widened, settled}
+use Rattle.zw_safety_words.proofs.WideBitRuns.{Brings, brings, leaves_one, negated_bits, signed_fits, natural_low}
+use Rattle.zw_safety_words.proofs.WideOrderRuns.{moved}
+use Rattle.zw_safety_words.proofs.WideRuns.{Reaches, reaches, reaches-then, reaches-within, steps-settled, steps-widened}
+use Rattle.zw_safety_words.proofs.WideWords.{lift_wide, masked_long, power_long}
+use Rattle.zw_safety_words.specs.WideCode.{widened, settled}
 use Rattle.zw_wasm.proofs.RunsCompose.{runs-step}
 use Rattle.zw_wasm.specs.declared.module.BinaryOperator.TheVariants.{Add, Sub, Mul, And}
 use Rattle.zw_wasm.specs.declared.module.Comparison.TheVariants.{LtS, LtU, GtU}

@@ -9,12 +9,12 @@ use Rattle.zw_safety_narrow.proofs.NarrowTypes.{takes-long, takes-long_const}
 use Rattle.zw_safety_narrow.proofs.SaturatingRight.{takes-tee_long}
 use Rattle.zw_safety_narrow.specs.CastCode.{holds}
 use Rattle.zw_safety_narrow.specs.Operators.{IsStored, IsRightOnOne, type_of}
-use Rattle.zw_safety_wide.proofs.WideBitRight.{takes-settled, takes-truncated_for, truncated_for-closed}
-use Rattle.zw_safety_wide.proofs.WideClosed.{closed-then, widened-closed, settled-closed}
 use Rattle.zw_safety_wide.proofs.WideReversalRuns.{wide_bit_reverse-ends, wide_byte_swap-ends}
-use Rattle.zw_safety_wide.proofs.WideTypes.{LongsAreTyped, longs, takes-widened}
-use Rattle.zw_safety_wide.specs.WideCode.{settled}
 use Rattle.zw_safety_wide.specs.WideReversalCode.{long_neighbours_swapped, long_bytes_turned, long_bits_turned, long_lowered, with_bits, wide_reversal_code, wide_byte_swap_code, wide_bit_reverse_code}
+use Rattle.zw_safety_words.proofs.WideBitRight.{takes-settled, takes-truncated_for, truncated_for-closed}
+use Rattle.zw_safety_words.proofs.WideClosed.{closed-then, widened-closed, settled-closed}
+use Rattle.zw_safety_words.proofs.WideTypes.{LongsAreTyped, longs, takes-widened}
+use Rattle.zw_safety_words.specs.WideCode.{settled}
 use Rattle.zw_wasm.proofs.TypingTakes.{takes-none, takes-then, takes-local_get}
 use Rattle.zw_wasm.specs.declared.module.BinaryOperator.TheVariants.{Add, And, Shl, ShrU}
 use Rattle.zw_wasm.specs.declared.module.Instr.{Instr}

@@ -19,13 +19,13 @@ use Rattle.zw_safety_narrow.specs.CastCode.{holds}
 use Rattle.zw_safety_narrow.specs.Checked.{HasScratch}
 use Rattle.zw_safety_narrow.specs.Operators.{IsStored, filled}
 use Rattle.zw_safety_narrow.specs.ReversalCode.{every_other}
-use Rattle.zw_safety_wide.proofs.WideBitRuns.{Brings, leaves_one, truncated_for}
 use Rattle.zw_safety_wide.proofs.WideCastRuns.{long, stored_width}
-use Rattle.zw_safety_wide.proofs.WideOrderRuns.{moved}
-use Rattle.zw_safety_wide.proofs.WideRuns.{Reaches, reaches, reaches-then, reaches-within, steps-settled, steps-widened}
-use Rattle.zw_safety_wide.proofs.WideWords.{power_long}
-use Rattle.zw_safety_wide.specs.WideCode.{widened, settled}
 use Rattle.zw_safety_wide.specs.WideReversalCode.{long_neighbours_swapped, long_bytes_turned, long_bits_turned, long_lowered, with_bits, wide_byte_swap_code, wide_bit_reverse_code}
+use Rattle.zw_safety_words.proofs.WideBitRuns.{Brings, leaves_one, truncated_for}
+use Rattle.zw_safety_words.proofs.WideOrderRuns.{moved}
+use Rattle.zw_safety_words.proofs.WideRuns.{Reaches, reaches, reaches-then, reaches-within, steps-settled, steps-widened}
+use Rattle.zw_safety_words.proofs.WideWords.{power_long}
+use Rattle.zw_safety_words.specs.WideCode.{widened, settled}
 use Rattle.zw_wasm.specs.declared.module.BinaryOperator.TheVariants.{Add, And, Shl, ShrU}
 use Rattle.zw_wasm.specs.declared.module.Instr.{Instr}
 use Rattle.zw_wasm.specs.declared.module.Instr.TheVariants.{I64Const, Binary}

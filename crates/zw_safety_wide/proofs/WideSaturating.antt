@@ -11,8 +11,8 @@ use Rattle.zw_num.specs.declared.int_ty.IntTy.{IntTy}
 use Rattle.zw_num.specs.declared.int_ty.IntTy.TheVariants.{Sized, Comptime}
 use Rattle.zw_safety_narrow.proofs.SaturatingRuns.{fits_between, long_of_signed}
 use Rattle.zw_safety_narrow.specs.Operators.{IsStored}
-use Rattle.zw_safety_wide.proofs.WideWords.{high, two_words, IsHeld, power_long}
 use Rattle.zw_safety_wide.specs.WideSaturatingCode.{greatest_long}
+use Rattle.zw_safety_words.proofs.WideWords.{high, two_words, IsHeld, power_long}
 
 -- ---- the nearest value
 

@@ -7,14 +7,14 @@ use Rattle.zw_num.specs.declared.op.TheConstants.{ADD_SAT, SUB_SAT, MUL_SAT}
 use Rattle.zw_safety_narrow.proofs.NarrowTypes.{takes-long_const, takes-compare_long}
 use Rattle.zw_safety_narrow.proofs.SaturatingRight.{takes-select_long}
 use Rattle.zw_safety_narrow.specs.Operators.{IsRight, type_of}
-use Rattle.zw_safety_wide.proofs.WideBitRight.{AreStored, takes-settled}
-use Rattle.zw_safety_wide.proofs.WideClosed.{closed-then, either_closed, low_word-closed, spread-closed, settled-closed, sum_words-closed, difference_words-closed, product_words-closed, outside-closed}
 use Rattle.zw_safety_wide.proofs.WideSaturatingRuns.{wide_product_sat-ends}
 use Rattle.zw_safety_wide.proofs.WideSaturatingShort.{wide_sum_sat-ends, wide_difference_sat-ends}
-use Rattle.zw_safety_wide.proofs.WideTypes.{LongsAreTyped, longs, takes-spread, takes-low_word, takes-long_less, takes-crossed, takes-sum_words, takes-difference_words, takes-product_words, takes-outside}
-use Rattle.zw_safety_wide.specs.WideCode.{spread, low_word, all_unsigned, all_signed, long_less, crossed, sum_words, difference_words, product_words}
-use Rattle.zw_safety_wide.specs.WideOrderCode.{both_unsigned}
 use Rattle.zw_safety_wide.specs.WideSaturatingCode.{greatest_long, bound, nearest, by_one_test, sum_nearest, difference_nearest, wide_sum_sat_code, wide_difference_sat_code, wide_product_sat_code}
+use Rattle.zw_safety_words.proofs.WideBitRight.{AreStored, takes-settled}
+use Rattle.zw_safety_words.proofs.WideClosed.{closed-then, either_closed, low_word-closed, spread-closed, settled-closed, sum_words-closed, difference_words-closed, product_words-closed, outside-closed}
+use Rattle.zw_safety_words.proofs.WideTypes.{LongsAreTyped, longs, takes-spread, takes-low_word, takes-long_less, takes-crossed, takes-sum_words, takes-difference_words, takes-product_words, takes-outside}
+use Rattle.zw_safety_words.specs.WideCode.{spread, low_word, all_unsigned, all_signed, long_less, crossed, sum_words, difference_words, product_words}
+use Rattle.zw_safety_words.specs.WideOrderCode.{both_unsigned}
 use Rattle.zw_wasm.proofs.TypingTakes.{takes-then, takes-local_get, takes-local_set}
 use Rattle.zw_wasm.specs.declared.module.BinaryOperator.{BinaryOperator}
 use Rattle.zw_wasm.specs.declared.module.BinaryOperator.TheVariants.{Add, Sub}

@@ -15,16 +15,16 @@ use Rattle.zw_safety_narrow.proofs.WordRuns.{both-true}
 use Rattle.zw_safety_narrow.specs.CompareCode.{is_unsigned}
 use Rattle.zw_safety_narrow.specs.Checked.{HasScratch}
 use Rattle.zw_safety_narrow.specs.Operators.{IsStored, filled}
-use Rattle.zw_safety_wide.proofs.WideAnswers.{spread-ends}
-use Rattle.zw_safety_wide.proofs.WideBitRuns.{signed_fits}
-use Rattle.zw_safety_wide.proofs.WideOrderRuns.{moved, bit-zero, chosen_long}
-use Rattle.zw_safety_wide.proofs.WideProductRuns.{gives-product}
-use Rattle.zw_safety_wide.proofs.WideRuns.{Reaches, HasLow, GivesWords, has-operands, has-middle, reaches, reaches-then, reaches-within, steps-outside, steps-settled, with_operands}
 use Rattle.zw_safety_wide.proofs.WideSaturating.{nearest_is, least_bits, greatest_bits, high_side, HasSide, side_fits, product_side, product_other_side}
-use Rattle.zw_safety_wide.proofs.WideWords.{high, IsBroad, held, broad_product}
-use Rattle.zw_safety_wide.specs.WideCode.{spread, product_words}
-use Rattle.zw_safety_wide.specs.WideOrderCode.{both_unsigned}
 use Rattle.zw_safety_wide.specs.WideSaturatingCode.{greatest_long, bound, nearest, wide_product_sat_code}
+use Rattle.zw_safety_words.proofs.WideAnswers.{spread-ends}
+use Rattle.zw_safety_words.proofs.WideBitRuns.{signed_fits}
+use Rattle.zw_safety_words.proofs.WideOrderRuns.{moved, bit-zero, chosen_long}
+use Rattle.zw_safety_words.proofs.WideProductRuns.{gives-product}
+use Rattle.zw_safety_words.proofs.WideRuns.{Reaches, HasLow, GivesWords, has-operands, has-middle, reaches, reaches-then, reaches-within, steps-outside, steps-settled, with_operands}
+use Rattle.zw_safety_words.proofs.WideWords.{high, IsBroad, held, broad_product}
+use Rattle.zw_safety_words.specs.WideCode.{spread, product_words}
+use Rattle.zw_safety_words.specs.WideOrderCode.{both_unsigned}
 use Rattle.zw_wasm.specs.declared.module.Comparison.TheVariants.{LtS}
 use Rattle.zw_wasm.specs.declared.module.Instr.{Instr}
 use Rattle.zw_wasm.specs.declared.module.Instr.TheVariants.{LocalGet, I64Const, Compare, Select}

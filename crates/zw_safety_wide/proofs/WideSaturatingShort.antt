@@ -13,15 +13,15 @@ use Rattle.zw_safety_narrow.proofs.Pieces.{having, steps-get, steps-long_const}
 use Rattle.zw_safety_narrow.proofs.SaturatingRuns.{fits_between}
 use Rattle.zw_safety_narrow.specs.Checked.{HasScratch}
 use Rattle.zw_safety_narrow.specs.Operators.{IsStored}
-use Rattle.zw_safety_wide.proofs.WideAnswers.{LeavesValue, spread-ends}
-use Rattle.zw_safety_wide.proofs.WideRuns.{Reaches, HasOperands, HasLow, GivesWords, has-operands, has-low, reaches, reaches-then, reaches-within, steps-low_word, steps-settled, with_operands}
 use Rattle.zw_safety_wide.proofs.WideSaturating.{nearest_is, sum_side, difference_side}
 use Rattle.zw_safety_wide.proofs.WideSaturatingRuns.{HasKind, steps-bound, steps-chosen, nearest-leaves, high_kind, not_below, natural_sum, naturals_of}
-use Rattle.zw_safety_wide.proofs.WideSums.{Operands, AreUnsigned, AreSigned, are-unsigned, are-signed, steps-long_less, steps-crossed, gives-sum, gives-difference}
-use Rattle.zw_safety_wide.proofs.WideWords.{high, IsBroad, held, broad_sum, broad_difference, high_plain, unsigned_sum_tells, unsigned_difference_tells, IsLongSigned, long_signed_value, signed_is, signed_sum_tells, signed_difference_tells, two_words}
-use Rattle.zw_safety_wide.specs.WideCode.{all_unsigned, all_signed, low_word, long_less, crossed, sum_words, difference_words}
-use Rattle.zw_safety_wide.specs.WideOrderCode.{both_unsigned}
 use Rattle.zw_safety_wide.specs.WideSaturatingCode.{bound, nearest, by_one_test, sum_nearest, difference_nearest, wide_sum_sat_code, wide_difference_sat_code}
+use Rattle.zw_safety_words.proofs.WideAnswers.{LeavesValue, spread-ends}
+use Rattle.zw_safety_words.proofs.WideRuns.{Reaches, HasOperands, HasLow, GivesWords, has-operands, has-low, reaches, reaches-then, reaches-within, steps-low_word, steps-settled, with_operands}
+use Rattle.zw_safety_words.proofs.WideSums.{Operands, AreUnsigned, AreSigned, are-unsigned, are-signed, steps-long_less, steps-crossed, gives-sum, gives-difference}
+use Rattle.zw_safety_words.proofs.WideWords.{high, IsBroad, held, broad_sum, broad_difference, high_plain, unsigned_sum_tells, unsigned_difference_tells, IsLongSigned, long_signed_value, signed_is, signed_sum_tells, signed_difference_tells, two_words}
+use Rattle.zw_safety_words.specs.WideCode.{all_unsigned, all_signed, low_word, long_less, crossed, sum_words, difference_words}
+use Rattle.zw_safety_words.specs.WideOrderCode.{both_unsigned}
 use Rattle.zw_wasm.specs.declared.module.BinaryOperator.{BinaryOperator}
 use Rattle.zw_wasm.specs.declared.module.BinaryOperator.TheVariants.{Add, Sub}
 use Rattle.zw_wasm.specs.declared.module.Comparison.TheVariants.{LtS, GtS}

@@ -10,14 +10,14 @@ use Rattle.zw_safety_narrow.proofs.SaturatingRight.{takes-select_long, takes-tee
 use Rattle.zw_safety_narrow.specs.Checked.{PanicStateIsTyped}
 use Rattle.zw_safety_narrow.specs.Code.{if_panics}
 use Rattle.zw_safety_narrow.specs.Operators.{IsRight, type_of}
-use Rattle.zw_safety_wide.proofs.WideBitRight.{AreStored, takes-settled, takes-both_got}
-use Rattle.zw_safety_wide.proofs.WideClosed.{closed-then, spread-closed, settled-closed}
 use Rattle.zw_safety_wide.proofs.WideShareRuns.{AreShared, wide_quotient-ends, wide_rest-ends, wide_modulo-ends, wide_floor-ends, wide_exact_quotient-ends}
-use Rattle.zw_safety_wide.proofs.WideTypes.{LongsAreTyped, longs, takes-spread}
-use Rattle.zw_safety_wide.specs.WideBitCode.{zero_tested}
-use Rattle.zw_safety_wide.specs.WideCode.{spread, settled}
-use Rattle.zw_safety_wide.specs.WideOrderCode.{both_unsigned}
 use Rattle.zw_safety_wide.specs.WideSignedCode.{are_wide_shares, quotient_of, remainder_of, lacking, lacking_tested, shared, wide_quotient_code, wide_rest_code, across, floored_rest, floored_quotient, wide_modulo_code, wide_floor_code, left_tested, wide_exact_quotient_code}
+use Rattle.zw_safety_words.proofs.WideBitRight.{AreStored, takes-settled, takes-both_got}
+use Rattle.zw_safety_words.proofs.WideClosed.{closed-then, spread-closed, settled-closed}
+use Rattle.zw_safety_words.proofs.WideTypes.{LongsAreTyped, longs, takes-spread}
+use Rattle.zw_safety_words.specs.WideBitCode.{zero_tested}
+use Rattle.zw_safety_words.specs.WideCode.{spread, settled}
+use Rattle.zw_safety_words.specs.WideOrderCode.{both_unsigned}
 use Rattle.zw_session.specs.Causes.{integer_overflow}
 use Rattle.zw_wasm.proofs.TypingTakes.{takes-none, takes-then, takes-instr, takes-local_get, takes-local_set}
 use Rattle.zw_wasm.specs.declared.module.BinaryOperator.{BinaryOperator}

@@ -22,15 +22,15 @@ use Rattle.zw_safety_narrow.proofs.Words.{add_bits, sub_bits}
 use Rattle.zw_safety_narrow.specs.Checked.{HasScratch, HasPanicState}
 use Rattle.zw_safety_narrow.specs.Code.{if_panics}
 use Rattle.zw_safety_narrow.specs.Operators.{IsStored}
-use Rattle.zw_safety_wide.proofs.WideAnswers.{Answers, LeavesValue, IsDivisor, divisor_from, divisor_below, answers-within, tested-answers, divided-ends}
-use Rattle.zw_safety_wide.proofs.WideBitRuns.{signed_fits, steps-both_got}
-use Rattle.zw_safety_wide.proofs.WideOrderRuns.{moved, bit-zero, chosen_long}
-use Rattle.zw_safety_wide.proofs.WideRuns.{Reaches, HasOperands, HasLow, has-low, reaches, reaches-then, steps-settled}
 use Rattle.zw_safety_wide.proofs.WideShares.{AreSigned, signed, naturals, natural_floor_is, is_lacking, lacking_quotient, lacking_floor, quotient_gives, remainder_gives, divides_signed, leaves_signed, rest_fits, across_is, xor_fits, floored_rest_for, floored_for}
-use Rattle.zw_safety_wide.proofs.WideWords.{IsHeld, held, bit_bits}
-use Rattle.zw_safety_wide.specs.WideCode.{settled}
-use Rattle.zw_safety_wide.specs.WideOrderCode.{both_unsigned}
 use Rattle.zw_safety_wide.specs.WideSignedCode.{are_wide_shares, quotient_of, remainder_of, lacking, lacking_tested, shared, wide_quotient_code, wide_rest_code, across, floored_rest, floored_quotient, wide_modulo_code, wide_floor_code, left_tested, wide_exact_quotient_code}
+use Rattle.zw_safety_words.proofs.WideAnswers.{Answers, LeavesValue, IsDivisor, divisor_from, divisor_below, answers-within, tested-answers, divided-ends}
+use Rattle.zw_safety_words.proofs.WideBitRuns.{signed_fits, steps-both_got}
+use Rattle.zw_safety_words.proofs.WideOrderRuns.{moved, bit-zero, chosen_long}
+use Rattle.zw_safety_words.proofs.WideRuns.{Reaches, HasOperands, HasLow, has-low, reaches, reaches-then, steps-settled}
+use Rattle.zw_safety_words.proofs.WideWords.{IsHeld, held, bit_bits}
+use Rattle.zw_safety_words.specs.WideCode.{settled}
+use Rattle.zw_safety_words.specs.WideOrderCode.{both_unsigned}
 use Rattle.zw_session.specs.Causes.{integer_overflow}
 use Rattle.zw_wasm.specs.declared.module.BinaryOperator.{BinaryOperator}
 use Rattle.zw_wasm.specs.declared.module.BinaryOperator.TheVariants.{Add, Sub, And, Xor, DivS, DivU, RemS, RemU}

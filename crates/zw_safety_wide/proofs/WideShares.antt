@@ -21,11 +21,11 @@ use Rattle.zw_safety_narrow.proofs.WordRuns.{both-true}
 use Rattle.zw_safety_narrow.specs.CastCode.{holds}
 use Rattle.zw_safety_narrow.specs.CompareCode.{is_unsigned}
 use Rattle.zw_safety_narrow.specs.Operators.{IsStored}
-use Rattle.zw_safety_wide.proofs.WideAnswers.{IsDivisor}
-use Rattle.zw_safety_wide.proofs.WideBitRuns.{natural_low, signed_fits}
-use Rattle.zw_safety_wide.proofs.WideOrderRuns.{fits_long}
-use Rattle.zw_safety_wide.specs.WideOrderCode.{fits_signed_long, both_fit, both_unsigned}
 use Rattle.zw_safety_wide.specs.WideSignedCode.{are_signed_shares, are_wide_shares, quotient_of, remainder_of}
+use Rattle.zw_safety_words.proofs.WideAnswers.{IsDivisor}
+use Rattle.zw_safety_words.proofs.WideBitRuns.{natural_low, signed_fits}
+use Rattle.zw_safety_words.proofs.WideOrderRuns.{fits_long}
+use Rattle.zw_safety_words.specs.WideOrderCode.{fits_signed_long, both_fit, both_unsigned}
 use Rattle.zw_wasm.specs.declared.module.BinaryOperator.TheVariants.{DivS, DivU, RemS, RemU}
 use Rattle.zw_wasm.specs.Numerics.{Gives, DividesByZero, Overflows, binary_of, quotient_in}
 

@@ -13,15 +13,15 @@ use Rattle.zw_safety_narrow.specs.Checked.{PanicStateIsTyped}
 use Rattle.zw_safety_narrow.specs.CompareCode.{is_unsigned}
 use Rattle.zw_safety_narrow.specs.Operators.{IsRight, type_of}
 use Rattle.zw_safety_narrow.specs.ShiftCode.{right_operator}
-use Rattle.zw_safety_wide.proofs.WideBitRight.{AreStored, takes-settled, takes-far}
-use Rattle.zw_safety_wide.proofs.WideClosed.{closed-then, spread-closed, settled-closed, if_closed, narrowed_long-closed}
 use Rattle.zw_safety_wide.proofs.WideSaturatingRight.{takes-bound, bound-closed, select-closed}
 use Rattle.zw_safety_wide.proofs.WideShareRight.{takes-shared, shared-closed}
 use Rattle.zw_safety_wide.proofs.WideShiftRuns.{wide_left_exact-ends, wide_right_exact-ends, wide_left_sat-ends}
-use Rattle.zw_safety_wide.proofs.WideTypes.{LongsAreTyped, longs, takes-spread, if_shorter-for}
-use Rattle.zw_safety_wide.specs.WideBitCode.{are_wide_amounts, far_tested}
-use Rattle.zw_safety_wide.specs.WideCode.{narrowed_long}
 use Rattle.zw_safety_wide.specs.WideShiftCode.{moved_left, unlike, lost_tested, low_settled, wide_left_exact_code, wide_right_exact_code, wide_left_sat_code}
+use Rattle.zw_safety_words.proofs.WideBitRight.{AreStored, takes-settled, takes-far}
+use Rattle.zw_safety_words.proofs.WideClosed.{closed-then, spread-closed, settled-closed, if_closed, narrowed_long-closed}
+use Rattle.zw_safety_words.proofs.WideTypes.{LongsAreTyped, longs, takes-spread, if_shorter-for}
+use Rattle.zw_safety_words.specs.WideBitCode.{are_wide_amounts, far_tested}
+use Rattle.zw_safety_words.specs.WideCode.{narrowed_long}
 use Rattle.zw_wasm.proofs.TypingTakes.{takes-none, takes-then, takes-local_get, takes-local_set}
 use Rattle.zw_wasm.specs.declared.module.BinaryOperator.{BinaryOperator}
 use Rattle.zw_wasm.specs.declared.module.BinaryOperator.TheVariants.{And, Or, Shl}

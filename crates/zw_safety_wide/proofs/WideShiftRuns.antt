@@ -24,20 +24,20 @@ use Rattle.zw_safety_narrow.specs.Checked.{HasScratch, HasPanicState}
 use Rattle.zw_safety_narrow.specs.CompareCode.{is_unsigned}
 use Rattle.zw_safety_narrow.specs.Operators.{IsStored}
 use Rattle.zw_safety_narrow.specs.ShiftCode.{right_operator}
-use Rattle.zw_safety_wide.proofs.WideAnswers.{Answers, LeavesValue, answers-within, tested-answers, tested_behind, spread-ends}
-use Rattle.zw_safety_wide.proofs.WideBitRuns.{IsWideAmount, always_amount, steps-far, shl_bits, shr_bits, signed_fits}
-use Rattle.zw_safety_wide.proofs.WideOrderRuns.{moved}
-use Rattle.zw_safety_wide.proofs.WideRuns.{Reaches, HasOperands, has-operands, has-low, reaches, reaches-then, reaches-within, if_shorter-for, steps-settled, with_operands}
 use Rattle.zw_safety_wide.proofs.WideSaturatingRuns.{HasKind, not_below, steps-bound, steps-chosen, saturated_choice}
 use Rattle.zw_safety_wide.proofs.WideShareRuns.{steps-shared, and_bit, turned_if, not_false}
 use Rattle.zw_safety_wide.proofs.WideShares.{natural}
 use Rattle.zw_safety_wide.proofs.WideShifts.{is_far, lost_is, dropped_is, lost_or_far, never_far, kept_by_amount, same_side}
-use Rattle.zw_safety_wide.proofs.WideWords.{held, or_bits}
-use Rattle.zw_safety_wide.specs.WideBitCode.{are_wide_amounts, far_tested}
-use Rattle.zw_safety_wide.specs.WideCode.{settled}
 use Rattle.zw_safety_wide.specs.WideSaturatingCode.{bound}
 use Rattle.zw_safety_wide.specs.WideShiftCode.{amount_tested, long_fitted, moved_left, unlike, lost_tested, low_settled, wide_left_exact_code, wide_right_exact_code, far_besides, wide_left_sat_code}
 use Rattle.zw_safety_wide.specs.WideSignedCode.{shared}
+use Rattle.zw_safety_words.proofs.WideAnswers.{Answers, LeavesValue, answers-within, tested-answers, tested_behind, spread-ends}
+use Rattle.zw_safety_words.proofs.WideBitRuns.{IsWideAmount, always_amount, steps-far, shl_bits, shr_bits, signed_fits}
+use Rattle.zw_safety_words.proofs.WideOrderRuns.{moved}
+use Rattle.zw_safety_words.proofs.WideRuns.{Reaches, HasOperands, has-operands, has-low, reaches, reaches-then, reaches-within, if_shorter-for, steps-settled, with_operands}
+use Rattle.zw_safety_words.proofs.WideWords.{held, or_bits}
+use Rattle.zw_safety_words.specs.WideBitCode.{are_wide_amounts, far_tested}
+use Rattle.zw_safety_words.specs.WideCode.{settled}
 use Rattle.zw_wasm.specs.declared.module.BinaryOperator.{BinaryOperator}
 use Rattle.zw_wasm.specs.declared.module.BinaryOperator.TheVariants.{And, Or, Shl}
 use Rattle.zw_wasm.specs.declared.module.Comparison.TheVariants.{Ne, GeU}

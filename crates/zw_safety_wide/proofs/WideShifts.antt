@@ -14,9 +14,9 @@ use Rattle.zw_num.specs.declared.int_ty.IntTy.{IntTy}
 use Rattle.zw_num.specs.declared.int_ty.IntTy.TheVariants.{Sized, Comptime}
 use Rattle.zw_num.specs.declared.num_fault.NumFault.TheVariants.{ShiftBits}
 use Rattle.zw_safety_narrow.specs.Operators.{IsStored}
-use Rattle.zw_safety_wide.proofs.WideAnswers.{divisor_from, divisor_below}
-use Rattle.zw_safety_wide.proofs.WideBitRuns.{zero_in}
-use Rattle.zw_safety_wide.proofs.WideWords.{two_words, held, power_long}
+use Rattle.zw_safety_words.proofs.WideAnswers.{divisor_from, divisor_below}
+use Rattle.zw_safety_words.proofs.WideBitRuns.{zero_in}
+use Rattle.zw_safety_words.proofs.WideWords.{two_words, held, power_long}
 
 -- ---- by a power of two and back
 

@@ -1,9 +1,5 @@
-pub mod WideCode
-pub mod WideBitCode
-pub mod WideOrderCode
 pub mod WideCastCode
 pub mod WideSignedCode
 pub mod WideSaturatingCode
 pub mod WideShiftCode
-pub mod WideTruthCode
 pub mod WideReversalCode

@@ -4,7 +4,7 @@ use Rattle.zw_num.specs.Arithmetic.{width}
 use Rattle.zw_num.specs.declared.int_ty.IntTy.{IntTy}
 use Rattle.zw_num.specs.declared.int_ty.IntTy.TheVariants.{Sized, Comptime}
 use Rattle.zw_safety_narrow.specs.Code.{if_panics}
-use Rattle.zw_safety_wide.specs.WideCode.{widened, settled}
+use Rattle.zw_safety_words.specs.WideCode.{widened, settled}
 use Rattle.zw_wasm.specs.declared.module.BinaryOperator.TheVariants.{Add, Sub, Mul, And}
 use Rattle.zw_wasm.specs.declared.module.Comparison.TheVariants.{LtS, LtU, GtU}
 use Rattle.zw_wasm.specs.declared.module.Instr.{Instr}

@@ -5,7 +5,7 @@ use Rattle.zw_num.specs.declared.int_ty.IntTy.{IntTy}
 use Rattle.zw_num.specs.declared.int_ty.IntTy.TheVariants.{Sized}
 use Rattle.zw_safety_narrow.specs.CastCode.{holds}
 use Rattle.zw_safety_narrow.specs.ReversalCode.{every_other}
-use Rattle.zw_safety_wide.specs.WideCode.{widened, settled, wide_fitted}
+use Rattle.zw_safety_words.specs.WideCode.{widened, settled, wide_fitted}
 use Rattle.zw_wasm.specs.declared.module.BinaryOperator.TheVariants.{Add, And, Shl, ShrU}
 use Rattle.zw_wasm.specs.declared.module.Instr.{Instr}
 use Rattle.zw_wasm.specs.declared.module.Instr.TheVariants.{LocalGet, LocalTee, I64Const, Binary}

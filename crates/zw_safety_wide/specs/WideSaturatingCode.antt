@@ -3,8 +3,8 @@ use Rattle.std.specs.Prelude.{ℕ, ℤ, pos, negsuc, ◌+◌, ◌-◌, ◌/◌, 
 use Rattle.zw_num.specs.Arithmetic.{least}
 use Rattle.zw_num.specs.declared.int_ty.IntTy.{IntTy}
 use Rattle.zw_num.specs.declared.int_ty.IntTy.TheVariants.{Sized, Comptime}
-use Rattle.zw_safety_wide.specs.WideCode.{settled, spread, low_word, outside, all_unsigned, all_signed, long_less, crossed, sum_words, difference_words, product_words}
-use Rattle.zw_safety_wide.specs.WideOrderCode.{both_unsigned}
+use Rattle.zw_safety_words.specs.WideCode.{settled, spread, low_word, outside, all_unsigned, all_signed, long_less, crossed, sum_words, difference_words, product_words}
+use Rattle.zw_safety_words.specs.WideOrderCode.{both_unsigned}
 use Rattle.zw_wasm.specs.declared.module.BinaryOperator.TheVariants.{Add, Sub}
 use Rattle.zw_wasm.specs.declared.module.Comparison.TheVariants.{LtS, GtS}
 use Rattle.zw_wasm.specs.declared.module.Instr.{Instr}

@@ -6,10 +6,10 @@ use Rattle.zw_num.specs.declared.int_ty.IntTy.{IntTy}
 use Rattle.zw_safety_narrow.specs.Code.{if_panics}
 use Rattle.zw_safety_narrow.specs.CompareCode.{is_unsigned}
 use Rattle.zw_safety_narrow.specs.ShiftCode.{right_operator}
-use Rattle.zw_safety_wide.specs.WideBitCode.{are_wide_amounts, far_tested}
-use Rattle.zw_safety_wide.specs.WideCode.{settled, spread, narrowed_long}
 use Rattle.zw_safety_wide.specs.WideSaturatingCode.{bound}
 use Rattle.zw_safety_wide.specs.WideSignedCode.{shared}
+use Rattle.zw_safety_words.specs.WideBitCode.{are_wide_amounts, far_tested}
+use Rattle.zw_safety_words.specs.WideCode.{settled, spread, narrowed_long}
 use Rattle.zw_wasm.specs.declared.module.BinaryOperator.{BinaryOperator}
 use Rattle.zw_wasm.specs.declared.module.BinaryOperator.TheVariants.{And, Or, Shl}
 use Rattle.zw_wasm.specs.declared.module.Comparison.TheVariants.{Ne, GeU}

@@ -5,9 +5,9 @@ use Rattle.zw_num.specs.Arithmetic.{least, width}
 use Rattle.zw_num.specs.declared.int_ty.IntTy.{IntTy}
 use Rattle.zw_safety_narrow.specs.CastCode.{holds}
 use Rattle.zw_safety_narrow.specs.Code.{if_panics}
-use Rattle.zw_safety_wide.specs.WideBitCode.{both_got, zero_tested}
-use Rattle.zw_safety_wide.specs.WideCode.{settled, spread, is_signed}
-use Rattle.zw_safety_wide.specs.WideOrderCode.{both_fit, both_unsigned}
+use Rattle.zw_safety_words.specs.WideBitCode.{both_got, zero_tested}
+use Rattle.zw_safety_words.specs.WideCode.{settled, spread, is_signed}
+use Rattle.zw_safety_words.specs.WideOrderCode.{both_fit, both_unsigned}
 use Rattle.zw_session.specs.Causes.{integer_overflow}
 use Rattle.zw_wasm.specs.declared.module.BinaryOperator.{BinaryOperator}
 use Rattle.zw_wasm.specs.declared.module.BinaryOperator.TheVariants.{Add, Sub, And, Xor, DivS, DivU, RemS, RemU}

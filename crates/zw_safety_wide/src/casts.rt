@@ -3,12 +3,12 @@ ghost use Rattle.std.specs.Prelude.{◌≡◌, ◌≤◌, ◌-◌, ◌/◌, ◌^
 ghost use Rattle.zw_num.specs.declared.int_ty.IntTy.TheVariants.{Sized};
 ghost use Rattle.zw_safety_narrow.specs.Operators.{IsStored};
 ghost use Rattle.zw_safety_wide.specs.WideCastCode.{long_tested, long_above, long_outside, long_negative, long_cast, wide_cast_code, long_distance, wide_distance_code, own_long, wide_ones_code, less_zeros, wide_leading_code, long_at_most, wide_trailing_code};
-ghost use Rattle.zw_safety_wide.specs.WideCode.{widened, settled};
+ghost use Rattle.zw_safety_words.specs.WideCode.{widened, settled};
 
-use crate::wide::{long_half, long_mask, push_settled, push_widened};
 use std::alloc::AllocError;
 use zw_num::IntTy;
 use zw_safety_narrow::{push_if_panics, width};
+use zw_safety_words::{long_half, long_mask, push_settled, push_widened};
 use zw_wasm::{BinaryOperator, Comparison, Instr, UnaryOperator, ValType};
 
 /// The cause of a panic where a cast's number is too great, or too far below 0.

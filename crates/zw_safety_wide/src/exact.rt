@@ -1,17 +1,18 @@
 // The code of exact shifts, and of the shift that stops at the bounds of its type, where a type has more than 32 bits.
 ghost use Rattle.std.specs.Prelude.{◌≡◌, ◌+◌, ◌≤◌, ◌∷◌, [], ◌++◌, OnOk};
 ghost use Rattle.zw_safety_narrow.specs.Operators.{IsStored};
-ghost use Rattle.zw_safety_wide.specs.WideCode.{settled};
 ghost use Rattle.zw_safety_wide.specs.WideShiftCode.{amount_tested, long_fitted, moved_left, unlike, lost_tested, low_settled, wide_left_exact_code, wide_right_exact_code, far_besides, wide_left_sat_code};
+ghost use Rattle.zw_safety_words.specs.WideCode.{settled};
 ghost use Rattle.zw_wasm.specs.declared.module.Instr.TheVariants.{LocalGet, LocalSet, Select};
 
-use crate::bits::{are_wide_amounts, push_far_tested};
 use crate::saturating::push_bound;
 use crate::shares::push_shared;
-use crate::wide::{push_if_shorter, push_settled, push_spread};
 use std::alloc::AllocError;
 use zw_num::IntTy;
 use zw_safety_narrow::{is_unsigned, push_if_panics, right_operator, width};
+use zw_safety_words::{
+    are_wide_amounts, push_far_tested, push_if_shorter, push_settled, push_spread,
+};
 use zw_wasm::{BinaryOperator, Comparison, Instr, ValType};
 
 /// The cause of a panic where an exact shift loses bits.

@@ -3,10 +3,10 @@ ghost use Rattle.std.specs.Prelude.{◌≡◌, ◌≤◌, ◌++◌, pos, OnOk};
 ghost use Rattle.zw_safety_narrow.specs.ReversalCode.{every_other};
 ghost use Rattle.zw_safety_wide.specs.WideReversalCode.{long_neighbours_swapped, long_bytes_turned, long_bits_turned, long_lowered, with_bits, wide_byte_swap_code, wide_bit_reverse_code};
 
-use crate::wide::{push_long_moved, push_settled, push_wide_fitted, push_widened};
 use std::alloc::AllocError;
 use zw_num::IntTy;
 use zw_safety_narrow::{holds, width};
+use zw_safety_words::{push_long_moved, push_settled, push_wide_fitted, push_widened};
 use zw_wasm::{BinaryOperator, Instr, ValType};
 
 /// Appends the code of `@byteSwap`.

@@ -2,19 +2,19 @@
 ghost use Rattle.std.specs.Prelude.{◌≡◌, ◌+◌, ◌≤◌, ◌∷◌, ◌++◌, false, OnOk};
 ghost use Rattle.zw_num.specs.declared.int_ty.IntTy.TheVariants.{Sized};
 ghost use Rattle.zw_safety_narrow.specs.Operators.{IsStored};
-ghost use Rattle.zw_safety_wide.specs.WideCode.{settled, long_less, crossed};
 ghost use Rattle.zw_safety_wide.specs.WideSaturatingCode.{greatest_long, bound, nearest, sum_nearest, difference_nearest, wide_sum_sat_code, wide_difference_sat_code, wide_product_sat_code};
+ghost use Rattle.zw_safety_words.specs.WideCode.{settled, long_less, crossed};
 ghost use Rattle.zw_wasm.specs.declared.module.Instr.TheVariants.{LocalGet, Select};
 
 use crate::casts::greatest_signed;
-use crate::order::both_unsigned;
 use crate::shares::least_long;
-use crate::wide::{
-    all_signed, all_unsigned, long_mask, push_crossed, push_difference_words, push_long_less,
-    push_low_word, push_outside, push_product_words, push_settled, push_spread, push_sum_words,
-};
 use std::alloc::AllocError;
 use zw_num::IntTy;
+use zw_safety_words::{
+    all_signed, all_unsigned, both_unsigned, long_mask, push_crossed, push_difference_words,
+    push_long_less, push_low_word, push_outside, push_product_words, push_settled, push_spread,
+    push_sum_words,
+};
 use zw_wasm::{BinaryOperator, Comparison, Instr, ValType};
 
 /// Appends the code of `+|`.

@@ -4,17 +4,17 @@ ghost use Rattle.zw_num.specs.Arithmetic.{least};
 ghost use Rattle.zw_num.specs.declared.int_ty.IntTy.TheVariants.{Sized};
 ghost use Rattle.zw_safety_narrow.specs.Code.{if_panics};
 ghost use Rattle.zw_safety_narrow.specs.Operators.{IsStored};
-ghost use Rattle.zw_safety_wide.specs.WideCode.{settled};
 ghost use Rattle.zw_safety_wide.specs.WideSignedCode.{are_signed_shares, are_wide_shares, quotient_of, remainder_of, lacking, lacking_tested, shared, wide_quotient_code, wide_rest_code, across, floored_rest, floored_quotient, wide_modulo_code, wide_floor_code, left_tested, wide_exact_quotient_code};
+ghost use Rattle.zw_safety_words.specs.WideCode.{settled};
 ghost use Rattle.zw_session.specs.Causes.{integer_overflow};
 
-use crate::bits::{push_both_got, push_zero_tested};
 use crate::casts::greatest_signed;
-use crate::order::{both_fit, both_unsigned};
-use crate::wide::{is_signed, push_settled, push_spread};
 use std::alloc::AllocError;
 use zw_num::IntTy;
 use zw_safety_narrow::{INTEGER_OVERFLOW, holds, push_if_panics, width};
+use zw_safety_words::{
+    both_fit, both_unsigned, is_signed, push_both_got, push_settled, push_spread, push_zero_tested,
+};
 use zw_wasm::{BinaryOperator, Comparison, Conversion, Instr, ValType};
 
 /// The cause of a panic where an exact quotient leaves a rest.

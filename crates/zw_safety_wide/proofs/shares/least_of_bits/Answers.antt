@@ -1,7 +1,7 @@
 use Rattle.std.proofs.Common.{◌<◌, arith}
 use Rattle.zw_safety_wide.proofs.WideShares.{least_read}
-use Rattle.zw_safety_wide.proofs.WideWords.{power_long}
 use Rattle.zw_safety_wide.proofs.shares.least_of_bits.Goals as goal
+use Rattle.zw_safety_words.proofs.WideWords.{power_long}
 
 pub returns-else-bits-eq0 : goal.returns-else-bits-eq0
 returns-else-bits-eq0 c =

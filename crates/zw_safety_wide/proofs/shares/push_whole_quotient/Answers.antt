@@ -1,8 +1,8 @@
 use Rattle.std.proofs.Common.{◌++◌, ap, ◌∙◌}
-use Rattle.zw_safety_wide.proofs.Appended.{in_three}
-use Rattle.zw_safety_wide.specs.WideCode.{settled}
 use Rattle.zw_safety_wide.specs.WideSignedCode.{quotient_of, remainder_of, shared, left_tested}
 use Rattle.zw_safety_wide.proofs.shares.push_whole_quotient.Goals as goal
+use Rattle.zw_safety_words.proofs.Appended.{in_three}
+use Rattle.zw_safety_words.specs.WideCode.{settled}
 
 pub returns : goal.returns
 returns c =

@@ -1,0 +1,13 @@
+pub mod Appended
+pub mod WideWords
+pub mod WideRuns
+pub mod WideSums
+pub mod WideProducts
+pub mod WideProductRuns
+pub mod WideTypes
+pub mod WideClosed
+pub mod WideBitRuns
+pub mod WideOrderRuns
+pub mod WideBitRight
+pub mod WideAnswers
+pub mod WideTruthRight

@@ -1,0 +1,4 @@
+pub mod WideCode
+pub mod WideBitCode
+pub mod WideOrderCode
+pub mod WideTruthCode
