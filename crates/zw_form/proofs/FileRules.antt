@@ -7,15 +7,15 @@ use Rattle.std.proofs.lemmas.List.Elements.{All-nil, All-cons, All-head, All-tai
 use Rattle.zw_token.specs.declared.token.Token.{Token}
 use Rattle.zw_tree.specs.Trees.{Forest}
 use Rattle.zw_tree.specs.declared.ast.Entry.{Entry}
-use Rattle.zw_tree.specs.Numbering.{inside_first}
+use Rattle.zw_tree.specs.Numbering.{inside_first, siblings}
 use Rattle.zw_form.specs.Form.{HasForm}
 use Rattle.zw_form.specs.Members.{Member, Passes, IsLight, weight_of, declared_by, new_among, names_behind, place_in, counts, members_behind, members_of, functions_of}
 use Rattle.zw_form.specs.declared.members.TheConstants.{WEIGHT_LIMIT}
-use Rattle.zw_form.specs.Nodes.{member_of, body_nodes, siblings}
+use Rattle.zw_form.specs.Nodes.{member_of, body_nodes}
 use Rattle.zw_form.specs.Rules.{KeepsNames, KeepsSteps, KeepsRules, name_of, externs_of, export_of, exports_of}
 use Rattle.zw_form.specs.Trees.{Tree, declaration_of}
 use Rattle.zw_form.specs.declared.source.Declaration.{Declaration}
-use Rattle.zw_form.proofs.NameLemmas.{any-absent, absent}
+use Rattle.zw_names.proofs.SetLemmas.{any-absent, absent}
 
 -- what members declare
 abbrev pub declared_all : List Member → List Declaration

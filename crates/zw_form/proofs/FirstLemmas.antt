@@ -6,7 +6,7 @@ use Rattle.std.proofs.lemmas.List.Elements.{All-head, All-tail}
 use Rattle.std.proofs.lemmas.List.Folds.{list_any-append}
 use Rattle.zw_form.specs.Programs.{first_of_each}
 use Rattle.zw_form.proofs.Items.{take-item, take-whole, AllPairs-head, AllPairs-tail}
-use Rattle.zw_form.proofs.NameLemmas.{same_bytes, bytes_eq-apart, Contains-any, any-Contains, any-absent}
+use Rattle.zw_names.proofs.SetLemmas.{same_bytes, bytes_eq-apart, Contains-any, any-Contains, any-absent}
 
 or_swap : (a b c : Bool) → (a || (b || c)) ≡ (b || (a || c))
 or_swap true true c = refl

@@ -13,11 +13,12 @@ use Rattle.zw_form.specs.declared.source.ExportedFunction.{ExportedFunction}
 use Rattle.zw_form.specs.declared.source.ExternFunction.{ExternFunction}
 use Rattle.zw_form.specs.declared.source.Step.{Step}
 use Rattle.zw_form.specs.declared.source.Step.TheVariants.{Parameter, Number, Operate, Call}
-use Rattle.zw_form.specs.Programs.{number_in, import_of, import_named, called_in, first_of_each}
+use Rattle.zw_names.specs.NameSets.{number_in}
+use Rattle.zw_form.specs.Programs.{import_of, import_named, called_in, first_of_each}
 use Rattle.zw_form.specs.Rules.{name_of, extern_of, externs_of, export_of, exports_of, parameter_of, IsCalled, IsKnown, KeepsSteps}
 use Rattle.zw_form.proofs.FirstLemmas.{Contains-first, Contains-from_first, first_of_each-insert, first_of_each-more}
 use Rattle.zw_form.proofs.Items.{AllPairs-head, AllPairs-tail, flat_map-item, flat_map-same}
-use Rattle.zw_form.proofs.NameLemmas.{same_bytes, bytes_eq-same, bytes_eq-apart}
+use Rattle.zw_names.proofs.SetLemmas.{same_bytes, bytes_eq-same, bytes_eq-apart}
 
 module _ {X : Type 0} where
   pub Contains-head : (x : X) (xs : List X) → Contains (x ∷ xs) x

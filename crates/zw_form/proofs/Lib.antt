@@ -1,4 +1,3 @@
-pub mod Standing
 pub mod SayLemmas
 pub mod WorkLemmas
 pub mod FunctionLemmas

@@ -10,23 +10,23 @@ use Rattle.std.proofs.lemmas.List.Elements.{All-nil, All-cons, All-head, All-tai
 use Rattle.zw_base.specs.declared.stop.Stop.{Stop}
 use Rattle.zw_base.specs.declared.stop.StopKind.{StopKind}
 use Rattle.zw_token.specs.declared.token.Token.{Token}
-use Rattle.zw_tree.specs.Numbering.{from, first_root, below, node_at}
+use Rattle.zw_tree.specs.Numbering.{from, first_root, below, node_at, siblings}
 use Rattle.zw_tree.specs.Trees.{Forest, none, tree, count, preorder}
 use Rattle.zw_tree.specs.declared.ast.Entry.{Entry}
 use Rattle.zw_tree.proofs.Nodes.{last-within, from-below}
 use Rattle.zw_tree.proofs.Subtrees.{node-root}
 use Rattle.zw_form.specs.Listed.{AreFunctions, IsKept, members_at, declared_at, functions_among, names_past, marks_of}
 use Rattle.zw_form.specs.Members.{Member, Keeps, Passes, IsLight, IsFirstStop, IsWeightStop, IsMemberStop, declared_by, functions_of, is_new, names_behind, new_among, place_in, weight_of}
-use Rattle.zw_form.specs.NameSets.{names_in}
-use Rattle.zw_form.specs.Nodes.{body_nodes, member_of, siblings}
+use Rattle.zw_names.specs.NameSets.{names_in}
+use Rattle.zw_form.specs.Nodes.{body_nodes, member_of}
 use Rattle.zw_form.specs.Rules.{KeepsNames, KeepsSteps, name_of, externs_of, export_of}
 use Rattle.zw_form.specs.Trees.{Tree, declaration_of}
 use Rattle.zw_form.specs.declared.members.Functions.{Functions}
 use Rattle.zw_form.specs.declared.members.TheConstants.{NODE_LIMIT, WEIGHT_LIMIT, NOT_BUILT, NODES, FRAME_WEIGHT}
 use Rattle.zw_form.specs.declared.source.Declaration.{Declaration}
 use Rattle.zw_form.proofs.FileRules.{new-differ}
-use Rattle.zw_form.proofs.NameLemmas.{absent, any-absent}
-use Rattle.zw_form.proofs.Standing.{from-there}
+use Rattle.zw_names.proofs.SetLemmas.{absent, any-absent}
+use Rattle.zw_tree.proofs.Standing.{from-there}
 
 -- all members before those that are left have passed
 pub record Passed (text : List ℕ) (tokens : List Token) (file : Forest Entry) (ns : List ℕ) (f : Functions) (todo : List ℕ) (i left : ℕ) : Type 0 where

@@ -9,19 +9,19 @@ use Rattle.std.proofs.lemmas.List.{length-map}
 use Rattle.std.proofs.lemmas.List.Elements.{All-head, All-tail}
 use Rattle.std.proofs.lemmas.Option.{slice_get_within}
 use Rattle.zw_base.specs.declared.stop.Stop.{Stop}
-use Rattle.zw_tree.specs.Numbering.{from, inside_first, below}
+use Rattle.zw_tree.specs.Numbering.{from, inside_first, below, siblings}
 use Rattle.zw_tree.specs.Trees.{Forest, none, tree, count, preorder}
 use Rattle.zw_tree.specs.declared.ast.Entry.{Entry}
 use Rattle.zw_form.specs.Members.{Member, Passes, IsMemberStop, IsFirstStop, IsLight, IsWeightStop, counts, functions_of, is_named, is_new, new_among}
-use Rattle.zw_form.specs.Nodes.{siblings, split_last, role_at, nodes_by, nodes_in, body_nodes, is_unit, member_of}
+use Rattle.zw_form.specs.Nodes.{split_last, role_at, nodes_by, nodes_in, body_nodes, is_unit, member_of}
 use Rattle.zw_form.specs.declared.members.TheConstants.{NODE_LIMIT, NODES, FRAME_WEIGHT}
 use Rattle.zw_form.specs.declared.roles.Role.{Role}
 use Rattle.zw_form.specs.declared.roles.Role.TheVariants as role
 use Rattle.zw_form.specs.declared.source.Declaration.{Declaration}
 use Rattle.zw_form.specs.Rules.{is_reserved, name_of}
 use Rattle.zw_form.specs.Trees.{declaration_of}
-use Rattle.zw_form.proofs.NameLemmas.{any-Contains, any-absent}
-use Rattle.zw_form.proofs.Standing.{from-there, last_get}
+use Rattle.zw_names.proofs.SetLemmas.{any-Contains, any-absent}
+use Rattle.zw_tree.proofs.Standing.{from-there, last_get}
 
 -- ---- bodies
 

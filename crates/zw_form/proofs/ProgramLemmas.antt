@@ -11,7 +11,7 @@ use Rattle.zw_form.specs.declared.source.ExternFunction.{ExternFunction}
 use Rattle.zw_form.specs.Programs.{action_of, function_of, import_of, import_named}
 use Rattle.zw_form.specs.Rules.{externs_of, exports_of, KeepsNames}
 use Rattle.zw_form.proofs.Items.{map-item, take-whole, within-map, past-map, is-map}
-use Rattle.zw_form.proofs.NameLemmas.{names_of}
+use Rattle.zw_names.proofs.SetLemmas.{names_of}
 use Rattle.zw_form.proofs.KeptLemmas.{Differ, same_extern, import_named-found, import_named-none}
 
 pub function_of-made : (imports : List (List ℕ)) (f : ExportedFunction) (params : List (List ℕ)) → params ≡ f.params → (name : List ℕ) → name ≡ f.name → (count : ℕ) → count ≡ length f.params

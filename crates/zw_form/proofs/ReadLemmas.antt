@@ -8,13 +8,12 @@ use Rattle.zw_base.specs.declared.stop.Refused.TheVariants as refused
 use Rattle.zw_parse.specs.Syntax.{IsTreeOf, IsSyntaxRefusal}
 use Rattle.zw_token.specs.Tokens.{Tokens}
 use Rattle.zw_token.specs.declared.token.Token.{Token}
-use Rattle.zw_tree.specs.Numbering.{from, inside_first}
+use Rattle.zw_tree.specs.Numbering.{from, inside_first, siblings}
 use Rattle.zw_tree.specs.Trees.{Forest, none, tree}
 use Rattle.zw_tree.specs.declared.ast.Entry.{Entry}
 use Rattle.zw_form.specs.Form.{HasForm, IsProgramOf, IsRefusal, IsStopOf}
 use Rattle.zw_form.specs.Listed.{AreFunctions, declared_at, members_at}
 use Rattle.zw_form.specs.Members.{Member, Passes, IsFirstStop, IsLight, IsWeightStop, counts, functions_of, members_behind, members_of}
-use Rattle.zw_form.specs.Nodes.{siblings}
 use Rattle.zw_form.specs.Programs.{program_of}
 use Rattle.zw_form.specs.Rules.{name_of, exports_of}
 use Rattle.zw_form.specs.Trees.{Tree, declaration_of}

@@ -2,13 +2,13 @@
 use Rattle.std.proofs.Common.{◌≡◌, ℕ, ℤ, ◌<◌, ◌≤◌, List, [], Option, Some, None, MatchOption, sym, ap, ◌∙◌, subst}
 use Rattle.std.specs.Option.{option_map}
 use Rattle.zw_tree.specs.Trees.{Forest, none, tree, count}
-use Rattle.zw_tree.specs.Numbering.{from, first_root, inside_first, node_at, child}
+use Rattle.zw_tree.specs.Numbering.{from, first_root, inside_first, node_at, child, siblings, after}
 use Rattle.zw_tree.specs.declared.ast.Entry.{Entry}
 use Rattle.zw_tree.specs.declared.ast.Node.{Node}
 use Rattle.zw_tree.proofs.Subtrees.{node-root}
-use Rattle.zw_form.specs.Nodes.{role_of, role_at, name_at, number_at, token_at, siblings, after}
+use Rattle.zw_form.specs.Nodes.{role_of, role_at, name_at, number_at, token_at}
 use Rattle.zw_form.specs.declared.roles.Role.TheVariants as role
-use Rattle.zw_form.proofs.Standing.{from-past, child-is, inside-past, after-none}
+use Rattle.zw_tree.proofs.Standing.{from-past, child-is, inside-past, after-none}
 
 root-role : (f : Forest Entry) (node : Node) → option_map (λ (e : Entry). e.node) (first_root f) ≡ Some node → role_of node.kind ≡ role_at f
 root-role none node h = absurd (cc)

@@ -7,12 +7,12 @@ use Rattle.std.proofs.lemmas.Bool.{and_parts, ltb-true}
 use Rattle.std.proofs.lemmas.List.Elements.{All-nil, All-cons, All-head, All-tail, All-append}
 use Rattle.zw_token.specs.declared.token.Token.{Token}
 use Rattle.zw_token.specs.Numbers.{is_decimal}
-use Rattle.zw_tree.specs.Numbering.{inside_first}
+use Rattle.zw_tree.specs.Numbering.{inside_first, siblings}
 use Rattle.zw_tree.specs.Trees.{Forest, none, tree}
 use Rattle.zw_tree.specs.declared.ast.Entry.{Entry}
 use Rattle.zw_form.specs.Form.{FitsStep, HasForm, IsSmall}
 use Rattle.zw_form.specs.Members.{Member, counts, members_behind, members_of, names_behind}
-use Rattle.zw_form.specs.Nodes.{both, each, split_last, siblings, role_at, role_of, spelled, plain_name, introduced, number_in, is_number, operated, call_in, sum_by, sums_of, call_by, statement_of, only, return_by, returned, body_in, body_by, body_of, body_nodes, signature_of, extern_tree, export_tree, export_in, function_by, member_by, member_of}
+use Rattle.zw_form.specs.Nodes.{both, each, split_last, role_at, role_of, spelled, plain_name, introduced, number_in, is_number, operated, call_in, sum_by, sums_of, call_by, statement_of, only, return_by, returned, body_in, body_by, body_of, body_nodes, signature_of, extern_tree, export_tree, export_in, function_by, member_by, member_of}
 use Rattle.zw_form.specs.Rules.{steps_of}
 use Rattle.zw_form.specs.Trees.{Sum, Parameter, Number, Operate, Result, Sums, NoSum, More, CallStatement, Body, Tree, Export, count_of, sum_steps, args_steps, statement_steps, body_steps, declaration_of}
 use Rattle.zw_form.specs.declared.roles.Role.{Role}

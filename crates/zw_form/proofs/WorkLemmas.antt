@@ -3,10 +3,10 @@ use Rattle.std.proofs.Common.{◌≡◌, ◌≢◌, ℕ, zero, suc, ◌+◌, ◌
 use Rattle.std.proofs.lemmas.List.{map_push}
 use Rattle.std.specs.Option.{option_map, option_and_then}
 use Rattle.zw_token.specs.declared.token.Token.{Token}
-use Rattle.zw_tree.specs.Numbering.{from, inside_first}
+use Rattle.zw_tree.specs.Numbering.{from, inside_first, after, behind_first, siblings}
 use Rattle.zw_tree.specs.Trees.{Forest, none, tree, count}
 use Rattle.zw_tree.specs.declared.ast.Entry.{Entry}
-use Rattle.zw_form.specs.Nodes.{both, after, behind_first, siblings, role_of, role_at, name_at, plain_name, mentioned, mention_by, number_in, spelled, is_number, operated, call_in, number_at, token_at, sum_by, sum_of, sums_of, only, return_by, returned, each, split_last, statement_of, body_in, body_by, body_of}
+use Rattle.zw_form.specs.Nodes.{both, role_of, role_at, name_at, plain_name, mentioned, mention_by, number_in, spelled, is_number, operated, call_in, number_at, token_at, sum_by, sum_of, sums_of, only, return_by, returned, each, split_last, statement_of, body_in, body_by, body_of}
 use Rattle.zw_form.specs.Trees.{Sum, Parameter, Number, Operate, Result, Sums, NoSum, More, CallStatement, count_of, sum_steps, sum_callees, args_steps, args_callees}
 use Rattle.zw_form.specs.Work.{Work, no_work, ◌▷◌, sum_work, args_work, call_work, statements_work, body_work, task_work, tasks_work, task_weight, tasks_weight, AreOperands, sums_in, done, planned, Begins, Finishes, Reads}
 use Rattle.zw_form.specs.declared.roles.Role.{Role}

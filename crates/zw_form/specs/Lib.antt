@@ -1,6 +1,5 @@
 pub mod Trees
 pub mod Nodes
-pub mod NameSets
 pub mod Work
 pub mod Rules
 pub mod Members

@@ -7,7 +7,7 @@ use Rattle.zw_tree.specs.Numbering.{from}
 use Rattle.zw_tree.specs.Trees.{Forest}
 use Rattle.zw_tree.specs.declared.ast.Entry.{Entry}
 use Rattle.zw_form.specs.Members.{Member, is_new, members_behind, new_among}
-use Rattle.zw_form.specs.NameSets.{names_in}
+use Rattle.zw_names.specs.NameSets.{names_in}
 use Rattle.zw_form.specs.Nodes.{member_of}
 use Rattle.zw_form.specs.Rules.{KeepsNames, KeepsSteps, name_of, externs_of, export_of}
 use Rattle.zw_form.specs.Trees.{declaration_of}

@@ -6,10 +6,10 @@ use Rattle.std.specs.Str.{bytes_eq, is_utf8}
 use Rattle.zw_base.specs.declared.stop.Place.{Place}
 use Rattle.zw_base.specs.declared.stop.Stop.{Stop}
 use Rattle.zw_token.specs.declared.token.Token.{Token}
-use Rattle.zw_tree.specs.Numbering.{inside_first}
+use Rattle.zw_tree.specs.Numbering.{inside_first, siblings}
 use Rattle.zw_tree.specs.Trees.{Forest, none, tree}
 use Rattle.zw_tree.specs.declared.ast.Entry.{Entry}
-use Rattle.zw_form.specs.Nodes.{member_of, body_nodes, is_unit, siblings}
+use Rattle.zw_form.specs.Nodes.{member_of, body_nodes, is_unit}
 use Rattle.zw_form.specs.Rules.{KeepsNames, KeepsSteps, is_reserved, name_of, externs_of, export_of}
 use Rattle.zw_form.specs.Trees.{Tree, declaration_of}
 use Rattle.zw_form.specs.declared.members.TheConstants.{NOT_BUILT, NODES, FRAME_WEIGHT, NODE_LIMIT, WEIGHT_LIMIT, PARAMETER_WEIGHT}

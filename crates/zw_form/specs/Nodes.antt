@@ -1,13 +1,12 @@
 -- What the nodes of a file's tree say in the form: a sum is a chain of `+`, `-` and `+%` whose terms are identifiers, numbers
 -- and calls. A function here takes the text with its tokens and the trees, and answers None where they aren't of the form.
-use Rattle.std.specs.Prelude.{ℕ, zero, suc, ℤ, pos, negsuc, ◌^◌, nat_lt, Bool, true, false, ◌&&◌, ◌||◌, List, [], ◌∷◌, codes, slice_get, slice_range, Option, Some, None, if◌then◌else◌}
-use Rattle.std.specs.List.{list_any}
+use Rattle.std.specs.Prelude.{ℕ, ℤ, pos, negsuc, ◌^◌, nat_lt, Bool, true, false, ◌&&◌, ◌||◌, List, [], ◌∷◌, codes, slice_get, slice_range, Option, Some, None, if◌then◌else◌}
 use Rattle.std.specs.Option.{option_map, option_and_then}
 use Rattle.std.specs.Str.{bytes_eq}
-use Rattle.zw_token.specs.Names.{is_sized_name, primitive_names}
+use Rattle.zw_token.specs.Names.{is_primitive}
 use Rattle.zw_token.specs.Numbers.{is_decimal}
 use Rattle.zw_token.specs.declared.token.Token.{Token}
-use Rattle.zw_tree.specs.Numbering.{inside_first}
+use Rattle.zw_tree.specs.Numbering.{inside_first, siblings}
 use Rattle.zw_tree.specs.Trees.{Forest, none, tree, preorder}
 use Rattle.zw_tree.specs.declared.ast.Entry.{Entry}
 use Rattle.zw_tree.specs.declared.kind.NodeKind.{NodeKind}
@@ -55,20 +54,6 @@ split_last [] = None
 split_last (x ∷ []) = Some ([], x)
 split_last (x ∷ (y ∷ ys)) = option_map (λ p. (x ∷ p.0, p.1)) (split_last (y ∷ ys))
 
--- the trees of a forest, each with those behind it
-abbrev pub siblings : {A : Type 0} → Forest A → List (Forest A)
-siblings none = []
-siblings (tree root below behind) = tree root below behind ∷ siblings behind
-
--- the trees behind the first one, and those behind the first k
-abbrev pub behind_first : {A : Type 0} → Forest A → Forest A
-behind_first none = none
-behind_first (tree root below behind) = behind
-
-abbrev pub after : {A : Type 0} → ℕ → Forest A → Forest A
-after zero forest = forest
-after (suc k) forest = after k (behind_first forest)
-
 -- what the first root says: its part in the form, what it stands for, and its first token
 abbrev pub role_at : Forest Entry → Role
 role_at none = role.Other
@@ -87,10 +72,6 @@ token_at none = 0
 token_at (tree root below behind) = root.node.first
 
 -- ---- names and numbers
-
--- the name of a primitive type or value
-abbrev pub is_primitive : List ℕ → Bool
-is_primitive name = is_sized_name name || list_any (λ primitive. bytes_eq primitive name) primitive_names
 
 -- A name that isn't quoted is none of a primitive type or value.
 abbrev pub plain_name : List ℕ → Option (List ℕ)

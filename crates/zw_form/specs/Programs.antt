@@ -1,7 +1,8 @@
 -- Programs: a file of the form with parameters and called functions by number.
-use Rattle.std.specs.Prelude.{ℕ, suc, false, List, [], ◌∷◌, length, map, if◌then◌else◌}
+use Rattle.std.specs.Prelude.{ℕ, false, List, [], ◌∷◌, length, map, if◌then◌else◌}
 use Rattle.std.specs.List.{flat_map, list_any}
 use Rattle.std.specs.Str.{bytes_eq}
+use Rattle.zw_names.specs.NameSets.{number_in}
 use Rattle.zw_form.specs.Rules.{externs_of, exports_of}
 use Rattle.zw_form.specs.declared.source.Declaration.{Declaration}
 use Rattle.zw_form.specs.declared.source.ExportedFunction.{ExportedFunction}
@@ -13,11 +14,6 @@ use Rattle.zw_form.specs.declared.program.Action.TheVariants as action
 use Rattle.zw_form.specs.declared.program.Function.{Function}
 use Rattle.zw_form.specs.declared.program.Import.{Import}
 use Rattle.zw_form.specs.declared.program.Program.{Program}
-
--- the number of a name in a list, or the list's length where it isn't there
-abbrev pub number_in : List (List ℕ) → List ℕ → ℕ
-number_in [] name = 0
-number_in (other ∷ names) name = if bytes_eq other name then 0 else suc (number_in names name)
 
 -- the names that aren't among the seen ones, each once, in the order in which they first come
 abbrev pub first_of_each : List (List ℕ) → List (List ℕ) → List (List ℕ)

@@ -4,10 +4,10 @@ use Rattle.std.specs.Prelude.{◌≡◌, ◌≢◌, ℕ, ◌+◌, ◌*◌, Bool,
 use Rattle.std.specs.List.{flat_map}
 use Rattle.std.specs.Option.{option_map}
 use Rattle.zw_token.specs.declared.token.Token.{Token}
-use Rattle.zw_tree.specs.Numbering.{from, inside_first}
+use Rattle.zw_tree.specs.Numbering.{from, inside_first, after}
 use Rattle.zw_tree.specs.Trees.{Forest, count}
 use Rattle.zw_tree.specs.declared.ast.Entry.{Entry}
-use Rattle.zw_form.specs.Nodes.{both, after, role_at, sum_of, sums_of}
+use Rattle.zw_form.specs.Nodes.{both, role_at, sum_of, sums_of}
 use Rattle.zw_form.specs.Trees.{Sum, Sums, NoSum, More, CallStatement, Body, count_of, sum_steps, sum_callees, args_steps, args_callees, statement_steps, statement_callees, body_steps, body_callees}
 use Rattle.zw_form.specs.declared.roles.Role.TheVariants as role
 use Rattle.zw_form.specs.declared.source.Step.{Step}

@@ -7,7 +7,7 @@ ghost use Rattle.zw_tree.specs.Trees.{count, preorder};
 ghost use Rattle.zw_tree.specs.declared.ast.Entry.{Entry};
 ghost use Rattle.zw_form.specs.Listed.{AreFunctions, IsKept, declared_at, members_at};
 ghost use Rattle.zw_form.specs.Members.{IsFirstStop, IsLight, IsWeightStop, Passes, counts, functions_of, is_new, new_among, weight_of};
-ghost use Rattle.zw_form.specs.NameSets.{names_in};
+ghost use Rattle.zw_names.specs.NameSets.{names_in};
 ghost use Rattle.zw_form.specs.Rules.{name_of};
 ghost use Rattle.zw_form.specs.Nodes.{body_nodes, is_export, is_unit};
 ghost use Rattle.zw_form.specs.declared.source.Declaration.{Declaration};
@@ -15,7 +15,6 @@ ghost use Rattle.zw_token.specs.declared.token.Token.{Token};
 
 use crate::Declaration;
 use crate::functions::read_member;
-use crate::names::insert;
 use crate::nodes::{children, role};
 use crate::roles::Role;
 use crate::rules::{keeps_rules, may_be_function};
@@ -23,6 +22,7 @@ use indexmap::IndexSet;
 use sqlite_items::Items;
 use std::alloc::Global;
 use zw_base::{Oom, Stop, StopKind};
+use zw_names::insert;
 use zw_token::Token;
 use zw_tree::Ast;
 

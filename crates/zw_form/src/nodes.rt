@@ -1,12 +1,11 @@
 // What single nodes of a tree say. A number past the last node is answered as that of a node that says nothing.
 ghost use Rattle.std.specs.Prelude.{◌≡◌, ◌<◌, map, MatchOption, Some, None};
-ghost use Rattle.zw_tree.specs.Numbering.{from, inside_first};
+ghost use Rattle.zw_tree.specs.Numbering.{from, inside_first, siblings, after};
 ghost use Rattle.zw_tree.specs.Trees.{count, none};
-ghost use Rattle.zw_form.specs.Nodes.{role_at, name_at, number_at, token_at, siblings, after, bytes_of, plain_name, introduced, mentioned, type_of, number_in, spelled};
+ghost use Rattle.zw_form.specs.Nodes.{role_at, name_at, number_at, token_at, bytes_of, plain_name, introduced, mentioned, type_of, number_in, spelled};
 
-use crate::names::is_primitive;
 use crate::roles::{Role, role_of};
-use zw_token::{Token, is_decimal};
+use zw_token::{Token, is_decimal, is_primitive_name};
 use zw_tree::Ast;
 
 /// The part that a node has in the form.
@@ -55,7 +54,11 @@ pub(crate) fn child(ast: &Ast, n: u32, k: u32) -> Option<u32>
 fn plain(name: &[u8]) -> Option<&[u8]>
     ensures { MatchOption result (plain_name name.now ≡ None) (λ x. plain_name name.now ≡ Some x.now) }
 {
-    if is_primitive(name) { None } else { Some(name) }
+    if is_primitive_name(name) {
+        None
+    } else {
+        Some(name)
+    }
 }
 
 /// The name that a node introduces.

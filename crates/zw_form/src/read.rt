@@ -1,5 +1,5 @@
 // The reader of a text of the form, from its bytes to its program.
-ghost use Rattle.std.specs.Prelude.{◌≡◌, ◌≤◌, length, IfOk, IfErr};
+ghost use Rattle.std.specs.Prelude.{◌≤◌, length, IfOk, IfErr};
 ghost use Rattle.zw_form.specs.Form.{IsProgramOf, IsRefusal};
 ghost use Rattle.zw_parse.specs.Syntax.{IsTreeOf};
 ghost use Rattle.zw_token.specs.Tokens.{Tokens};

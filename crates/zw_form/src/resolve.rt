@@ -1,17 +1,18 @@
 // The program of a file: what it names, by number.
 ghost use Rattle.std.specs.Prelude.{◌≡◌, ◌≢◌, map, IfOk, All, AllPairs};
-ghost use Rattle.zw_form.specs.NameSets.{names_in};
+ghost use Rattle.zw_names.specs.NameSets.{names_in};
 ghost use Rattle.zw_form.specs.Programs.{called_in, import_named, action_of, function_of, program_of};
 ghost use Rattle.zw_form.specs.Rules.{name_of, externs_of, exports_of};
 ghost use Rattle.zw_form.specs.declared.source.ExportedFunction.{ExportedFunction};
 
-use crate::names::{insert_all, number_in, set_of};
+use crate::names::{insert_all, set_of};
 use crate::rules::extern_named;
 use crate::{Action, Declaration, ExportedFunction, Function, Import, Program, Step};
 use indexmap::IndexSet;
 use sqlite_items::Items;
 use std::alloc::Global;
 use zw_base::Oom;
+use zw_names::number_in;
 
 /// The program of a file whose functions have these names.
 pub(crate) fn program_of(

@@ -1,18 +1,19 @@
 // The rules of a file: which names its declarations have, which functions it calls, and how.
 ghost use Rattle.std.specs.Prelude.{◌≡◌, ◌≢◌, ◌↔◌, [], length, map, IfOk, IfSome, IfNone, IsTrue, IsUtf8, All, AllPairs, Contains, false};
 ghost use Rattle.std.specs.List.{flat_map};
-ghost use Rattle.zw_form.specs.NameSets.{names_in};
+ghost use Rattle.zw_names.specs.NameSets.{names_in};
 ghost use Rattle.zw_form.specs.Programs.{first_of_each};
 ghost use Rattle.zw_form.specs.Rules.{is_reserved, KeepsNames, KeepsSteps, IsKnown, IsCalled, name_of, externs_of, export_of, parameter_of};
 ghost use Rattle.zw_form.specs.declared.source.ExternFunction.{ExternFunction};
 
-use crate::names::{differ, differ_from, holds, holds_all, insert, is_reserved, number_in, set_of};
+use crate::names::{differ, differ_from, holds_all, is_reserved, set_of};
 use crate::{Callee, Declaration, ExportedFunction, ExternFunction, Step};
 use indexmap::IndexSet;
 use sqlite_items::at;
 use std::alloc::Global;
 use std::str::from_utf8;
 use zw_base::Oom;
+use zw_names::{holds, insert, number_in};
 
 /// The extern function of a file with this name. The set has the names of the file's functions, in their order.
 pub fn extern_named<'f>(

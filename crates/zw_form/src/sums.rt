@@ -2,9 +2,9 @@
 // neither a long chain nor a deep call takes more than the list.
 ghost use Rattle.std.specs.Prelude.{◌≡◌, ℕ, ◌+◌, ◌-◌, ◌*◌, ◌≤◌, false, [], List, length, MatchBool, MatchOption, IfOk, map, Some, None};
 ghost use Rattle.std.specs.Option.{option_map, option_and_then};
-ghost use Rattle.zw_tree.specs.Numbering.{from, inside_first};
+ghost use Rattle.zw_tree.specs.Numbering.{from, inside_first, siblings, after};
 ghost use Rattle.zw_tree.specs.Trees.{count};
-ghost use Rattle.zw_form.specs.Nodes.{siblings, mentioned, number_in, number_at, token_at, spelled, operated, call_in, sum_of, sums_of, after, statement_of, returned, body_of, each};
+ghost use Rattle.zw_form.specs.Nodes.{mentioned, number_in, number_at, token_at, spelled, operated, call_in, sum_of, sums_of, statement_of, returned, body_of, each};
 ghost use Rattle.zw_form.specs.Trees.{Parameter, Number};
 ghost use Rattle.zw_form.specs.Work.{AreOperands, Begins, Finishes, Reads, sum_work, call_work, statements_work, body_work, done, task_work, tasks_weight};
 ghost use Rattle.zw_token.specs.declared.token.Token.{Token};

@@ -6,7 +6,8 @@ use Rattle.std.proofs.lemmas.Bool.{cond-true}
 use Rattle.std.proofs.lemmas.List.{length-replicate, get_or-replicate}
 use Rattle.std.proofs.lemmas.List.Folds.{flat_map-map}
 use Rattle.std.proofs.lemmas.Option.{slice_get_within, slice_get-get_or}
-use Rattle.zw_form.specs.Programs.{number_in, action_of, function_of}
+use Rattle.zw_names.specs.NameSets.{number_in}
+use Rattle.zw_form.specs.Programs.{action_of, function_of}
 use Rattle.zw_form.specs.Rules.{IsKnown}
 use Rattle.zw_form.specs.Trees.{Body, body_steps}
 use Rattle.zw_form.specs.declared.program.Action.{Action}

@@ -6,7 +6,8 @@ use Rattle.std.specs.Option.{option_to_list}
 use Rattle.std.proofs.lemmas.List.{reverse-append, replicate_more}
 use Rattle.std.proofs.lemmas.List.Concat.{flat_map-append}
 use Rattle.std.proofs.lemmas.List.Elements.{All-head}
-use Rattle.zw_form.specs.Programs.{number_in, action_of}
+use Rattle.zw_names.specs.NameSets.{number_in}
+use Rattle.zw_form.specs.Programs.{action_of}
 use Rattle.zw_form.specs.Trees.{Sum, Parameter, Number, Operate, Result, Sums, NoSum, More, CallStatement, Body, count_of, sum_steps, args_steps, statement_steps, body_steps}
 use Rattle.zw_form.specs.declared.source.Operator.{Operator}
 use Rattle.zw_form.specs.declared.source.Operator.TheVariants.{Add, Subtract, AddWrapping}

@@ -7,7 +7,8 @@ use Rattle.std.proofs.Math.Nat.{mod-eq_of_lt}
 use Rattle.std.proofs.lemmas.Bool.{and_parts, and_from, ltb-true, eqb-true}
 use Rattle.std.proofs.lemmas.List.{length-append, length-map}
 use Rattle.std.proofs.lemmas.Option.{slice_get_within}
-use Rattle.zw_form.specs.Programs.{number_in, action_of, function_of}
+use Rattle.zw_names.specs.NameSets.{number_in}
+use Rattle.zw_form.specs.Programs.{action_of, function_of}
 use Rattle.zw_form.specs.Source.{Exported, is_u32, number_of, value_of, args_fit}
 use Rattle.zw_form.specs.Trees.{body_steps}
 use Rattle.zw_form.specs.declared.source.Step.{Step}

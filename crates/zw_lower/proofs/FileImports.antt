@@ -4,7 +4,8 @@ use Rattle.std.specs.Prelude.{slice_get}
 use Rattle.std.specs.Str.{bytes_eq}
 use Rattle.std.proofs.lemmas.Bool.{cond-true, cond-false, lt-ltb}
 use Rattle.std.proofs.lemmas.Option.{slice_get_within}
-use Rattle.zw_form.specs.Programs.{number_in, called_in, import_of, import_named, program_of}
+use Rattle.zw_names.specs.NameSets.{number_in}
+use Rattle.zw_form.specs.Programs.{called_in, import_of, import_named, program_of}
 use Rattle.zw_form.specs.Rules.{KeepsRules, name_of, externs_of}
 use Rattle.zw_form.specs.Source.{extern_named}
 use Rattle.zw_form.specs.Trees.{Tree, Extern, Export, declaration_of}

@@ -2,7 +2,7 @@
 use Rattle.std.proofs.Common.{◌≡◌, ℕ, zero, suc, Bool, true, pos, List, [], ◌∷◌, length, map, replicate, Option, Some, None, refl, sym, ap, ◌∙◌, subst, Contains}
 use Rattle.std.proofs.lemmas.List.{length-map, length-replicate}
 use Rattle.std.specs.Prelude.{nat_lt, slice_get, if◌then◌else◌}
-use Rattle.zw_form.specs.Programs.{number_in}
+use Rattle.zw_names.specs.NameSets.{number_in}
 use Rattle.zw_form.specs.Rules.{IsKnown, IsCalled}
 use Rattle.zw_form.specs.Source.{event_of}
 use Rattle.zw_form.specs.declared.source.ExternFunction.{ExternFunction}

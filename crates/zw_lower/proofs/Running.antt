@@ -2,7 +2,8 @@
 use Rattle.std.proofs.Common.{◌≡◌, ℕ, ◌<◌, ◌^◌, true, List, [], ◌∷◌, ◌++◌, length, map, replicate, reverse, Some, All, Contains}
 use Rattle.std.specs.Prelude.{nat_lt, slice_get}
 use Rattle.std.specs.List.{flat_map}
-use Rattle.zw_form.specs.Programs.{number_in, action_of}
+use Rattle.zw_names.specs.NameSets.{number_in}
+use Rattle.zw_form.specs.Programs.{action_of}
 use Rattle.zw_form.specs.Source.{Answer, Gives, Stops}
 use Rattle.zw_form.specs.declared.source.ExternFunction.{ExternFunction}
 use Rattle.zw_form.specs.declared.source.Step.{Step}

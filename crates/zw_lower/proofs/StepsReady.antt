@@ -2,7 +2,8 @@
 use Rattle.std.proofs.Common.{◌≡◌, ℕ, ◌+◌, ◌≤◌, true, List, [], ◌++◌, length, sym, ◌∙◌, subst, All, Contains}
 use Rattle.std.proofs.lemmas.List.Elements.{All-nil, All-weaker}
 use Rattle.zw_form.specs.Form.{FitsStep}
-use Rattle.zw_form.specs.Programs.{number_in, action_of}
+use Rattle.zw_names.specs.NameSets.{number_in}
+use Rattle.zw_form.specs.Programs.{action_of}
 use Rattle.zw_form.specs.Rules.{IsKnown}
 use Rattle.zw_form.specs.declared.source.ExternFunction.{ExternFunction}
 use Rattle.zw_form.specs.declared.source.Step.{Step}

@@ -6,7 +6,8 @@ use Rattle.std.proofs.lemmas.List.{append-nil}
 use Rattle.std.proofs.lemmas.List.Elements.{All-head}
 use Rattle.std.specs.Int.{cast_signed, w32}
 use Rattle.std.specs.List.{flat_map}
-use Rattle.zw_form.specs.Programs.{number_in, action_of}
+use Rattle.zw_names.specs.NameSets.{number_in}
+use Rattle.zw_form.specs.Programs.{action_of}
 use Rattle.zw_form.specs.Rules.{IsKnown}
 use Rattle.zw_form.specs.Source.{Evaluated, Gives, gives, and_then, operator_value, or_overflow, event_of, asked}
 use Rattle.zw_form.specs.declared.source.ExternFunction.{ExternFunction}

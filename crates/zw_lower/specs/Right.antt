@@ -1,7 +1,8 @@
 -- When a module does what a file means.
 use Rattle.std.specs.Prelude.{◌≡◌, ℕ, suc, ◌+◌, max, true, List, [], ◌∷◌, ◌++◌, length, map, codes, Some, None, slice_get, Contains}
 use Rattle.zw_form.specs.Form.{IsSmall}
-use Rattle.zw_form.specs.Programs.{called_in, number_in, program_of}
+use Rattle.zw_names.specs.NameSets.{number_in}
+use Rattle.zw_form.specs.Programs.{called_in, program_of}
 use Rattle.zw_form.specs.Rules.{KeepsRules, exports_of, externs_of}
 use Rattle.zw_form.specs.Source.{source_machine}
 use Rattle.zw_form.specs.Trees.{Tree, declaration_of}

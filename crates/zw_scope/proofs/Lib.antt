@@ -2,7 +2,6 @@ pub mod Violations
 pub mod ReadLemmas
 pub mod MarkLemmas
 pub mod RuleLemmas
-pub mod PrimitiveLemmas
 pub mod RepeatLemmas
 pub mod CheckLemmas
 pub mod MemberLemmas

@@ -1,15 +1,14 @@
 -- What is read of a node with its site, and whether a parameter has a body behind it.
 use Rattle.std.proofs.Common.{◌≡◌, ℕ, zero, suc, ◌<◌, List, Some, None, true, false, slice_get, refl, sym, ap, ◌∙◌, subst}
 use Rattle.zw_tree.specs.Trees.{Forest, none, tree, count}
-use Rattle.zw_tree.specs.Numbering.{from, below, parent}
+use Rattle.zw_tree.specs.Numbering.{from, below, parent, after}
 use Rattle.zw_tree.specs.declared.ast.Entry.{Entry}
 use Rattle.zw_tree.specs.declared.kind.NodeKind.{NodeKind}
 use Rattle.zw_tree.proofs.Descent.{parent-child}
-use Rattle.zw_scope_sites.specs.Firsts.{after}
 use Rattle.zw_scope_sites.specs.Placing.{AllPlaced}
 use Rattle.zw_scope_sites.specs.Scopes.{ends_in_block, is_parameter_kind, Standing, all_standing, is_block, kind_of}
 use Rattle.zw_scope.specs.Telling.{IsRead}
-use Rattle.zw_scope_sites.proofs.Standing.{after-none}
+use Rattle.zw_tree.proofs.Standing.{after-none}
 use Rattle.zw_tree.specs.declared.kind.NodeKind.TheVariants.{Parameter, Block}
 use Rattle.zw_scope_sites.specs.Sites.{IsSite}
 use Rattle.zw_scope_sites.specs.declared.lists.Lists.{Lists}

@@ -9,9 +9,9 @@ use Rattle.std.proofs.lemmas.List.{drop_all}
 use Rattle.std.proofs.lemmas.List.Concat.{flat_map-append}
 use Rattle.std.proofs.lemmas.List.Folds.{list_any-append}
 use Rattle.zw_tree.specs.Trees.{Forest, none, tree, count}
-use Rattle.zw_tree.specs.Numbering.{from, first_root, below, children}
+use Rattle.zw_tree.specs.Numbering.{from, first_root, below, children, after}
 use Rattle.zw_tree.specs.declared.ast.Entry.{Entry}
-use Rattle.zw_scope_sites.specs.Firsts.{after, kind_at, text_at}
+use Rattle.zw_scope_sites.specs.Firsts.{kind_at, text_at}
 use Rattle.zw_scope_sites.specs.Scopes.{is_name, kind_of, name_in, is_named_member, is_parameter_kind, is_initialiser}
 use Rattle.zw_tree.specs.declared.kind.NodeKind.{NodeKind}
 use Rattle.zw_scope.specs.NameRules.{Violation, listed, names_of, own_names, repeated, told, told_at_name}
@@ -20,10 +20,10 @@ use Rattle.zw_scope.specs.Telling.{tells}
 use Rattle.zw_scope.specs.declared.repeats.Named.{Named}
 use Rattle.zw_scope.specs.declared.repeats.Named.TheVariants.{Members, Parameters, Initialisers, Errors}
 use Rattle.zw_scope_sites.proofs.SayLemmas.{IsChildAt, child-at, child-item, items-end}
-use Rattle.zw_scope_sites.proofs.SetLemmas.{any-Contains, any-absent, same_bytes}
+use Rattle.zw_names.proofs.SetLemmas.{any-Contains, any-absent, same_bytes}
 use Rattle.std.proofs.lemmas.List.Elements.{All-push}
 use Rattle.zw_scope_sites.proofs.SiteLemmas.{IsThere, is-there}
-use Rattle.zw_scope_sites.proofs.Standing.{from-there}
+use Rattle.zw_tree.proofs.Standing.{from-there}
 
 pub node-within : (file : Forest Entry) (n : ℕ) (root : Entry) (inside behind : Forest Entry) → from file n ≡ tree root inside behind → n < count file
 node-within file n root inside behind h = let size = ap count h in from-there file n (omega (arith, size))

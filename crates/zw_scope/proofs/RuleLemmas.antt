@@ -11,7 +11,8 @@ use Rattle.zw_scope.specs.Telling.{AreMarks, IsRead, tells}
 use Rattle.zw_scope_sites.specs.declared.lists.Lists.{Lists}
 use Rattle.zw_scope_sites.specs.declared.sites.Site.{Site}
 use Rattle.zw_scope_sites.proofs.SiteLemmas.{IsThere, is-there}
-use Rattle.zw_scope.specs.NameRules.{is_declared, is_local, is_repeated, is_shadow, is_mentioned, is_to_be_mentioned, unused, unused_at, breaks_label_rule, label_at, label_takes, labels, takes_jump, told, told_at_name, is_primitive, names_primitive}
+use Rattle.zw_token.specs.Names.{is_primitive}
+use Rattle.zw_scope.specs.NameRules.{is_declared, is_local, is_repeated, is_shadow, is_mentioned, is_to_be_mentioned, unused, unused_at, breaks_label_rule, label_at, label_takes, labels, takes_jump, told, told_at_name, names_primitive}
 use Rattle.zw_scope_sites.specs.Scopes.{is_visible_local, is_open, open_label, opens_label, is_unquoted, Scope, Standing, binds, is_label, kind_of, name_in}
 
 pub primitive-read : (f : Forest Entry) (entry : Entry) → first_root f ≡ Some entry → names_primitive entry ≡ (is_unquoted (kind_at f) && is_primitive (text_at f))

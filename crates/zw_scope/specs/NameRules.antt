@@ -5,7 +5,7 @@ use Rattle.std.specs.List.{list_any, flat_map}
 use Rattle.std.specs.Str.{bytes_eq}
 use Rattle.zw_base.specs.declared.stop.Stop.{Stop}
 use Rattle.zw_base.specs.declared.stop.StopKind.TheVariants.{Error}
-use Rattle.zw_token.specs.Names.{is_sized_name, primitive_names}
+use Rattle.zw_token.specs.Names.{is_primitive}
 use Rattle.zw_tree.specs.Trees.{Forest, none, tree}
 use Rattle.zw_tree.specs.declared.ast.Entry.{Entry}
 use Rattle.zw_tree.specs.declared.kind.NodeKind.{NodeKind}
@@ -26,10 +26,6 @@ told true error at = record { error = error; at = at } ∷ []
 abbrev pub told_at_name : Bool → ℕ → Option Entry → List Violation
 told_at_name broken error None = []
 told_at_name broken error (Some name) = told broken error name
-
--- the name of a primitive type or value
-abbrev pub is_primitive : List ℕ → Bool
-is_primitive name = is_sized_name name || list_any (λ other. bytes_eq other name) primitive_names
 
 -- the name is written without quotes, and is that of a primitive
 abbrev pub names_primitive : Entry → Bool

@@ -4,7 +4,7 @@ ghost use Rattle.std.specs.Option.{option_to_list};
 ghost use Rattle.zw_scope_sites.specs.Firsts.{kind_at};
 ghost use Rattle.zw_scope.specs.NameRules.{Violation, names_once, repeated};
 ghost use Rattle.zw_scope.specs.Repeats.{Passes, Repeats, entries, names_by};
-ghost use Rattle.zw_scope_sites.specs.Lists.{names_in};
+ghost use Rattle.zw_names.specs.NameSets.{names_in};
 ghost use Rattle.zw_scope.specs.Telling.{IsFirstOf};
 ghost use Rattle.zw_tree.specs.Numbering.{below, from};
 ghost use Rattle.zw_tree.specs.Trees.{Forest, count, none, tree};
@@ -14,8 +14,8 @@ use crate::told::{Told, tell};
 use indexmap::IndexSet;
 use std::alloc::Global;
 use zw_base::Oom;
+use zw_names::insert;
 use zw_scope_sites::kinds::{is_initialiser, is_name, is_named_member, is_parameter};
-use zw_scope_sites::names::insert;
 use zw_scope_sites::nodes::{children, kind, name_in, text};
 use zw_tree::{Ast, NodeKind};
 

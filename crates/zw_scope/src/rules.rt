@@ -4,7 +4,7 @@ ghost use Rattle.std.specs.Option.{option_to_list};
 ghost use Rattle.std.specs.List.{list_any};
 ghost use Rattle.zw_scope_sites.specs.Firsts.{kind_at};
 ghost use Rattle.zw_scope_sites.specs.Scopes.{ends_in_block, is_visible_local, Scope, Standing, binds, label_in};
-ghost use Rattle.zw_scope.specs.NameRules.{flows, is_declared, is_parameter, unused, is_local, is_primitive, is_repeated, is_shadow, is_to_be_mentioned, label_takes, labels, loop_takes, mentioned_by, names_primitive, shadows, takes, takes_jump, takes_return, unknowns};
+ghost use Rattle.zw_scope.specs.NameRules.{flows, is_declared, is_parameter, unused, is_local, is_repeated, is_shadow, is_to_be_mentioned, label_takes, labels, loop_takes, mentioned_by, names_primitive, shadows, takes, takes_jump, takes_return, unknowns};
 ghost use Rattle.zw_scope_sites.specs.Sites.{Shows};
 ghost use Rattle.zw_scope.specs.Telling.{AreMarks, IsRead, tells};
 ghost use Rattle.zw_tree.specs.Numbering.{below, first_root, from};
@@ -22,18 +22,11 @@ use zw_scope_sites::sites::{Site, View};
 use zw_token::is_primitive_name;
 use zw_tree::{Ast, NodeKind};
 
-/// Whether this is the name of a primitive type or value.
-fn is_primitive(name: &[u8]) -> bool
-    ensures { result ≡ is_primitive name.now }
-{
-    is_primitive_name(name)
-}
-
 /// Whether a node is written without quotes, with the name of a primitive.
 pub(crate) fn names_primitive(ast: &Ast, n: u32) -> bool
     ensures { (entry : Entry) → first_root (from ast.now n) ≡ Some entry → result ≡ names_primitive entry }
 {
-    is_unquoted(kind(ast, n)) && is_primitive(text(ast, n))
+    is_unquoted(kind(ast, n)) && is_primitive_name(text(ast, n))
 }
 
 /// Whether a node is a local constant or variable, a parameter or a capture.

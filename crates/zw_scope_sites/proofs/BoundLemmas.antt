@@ -4,7 +4,8 @@ use Rattle.std.specs.Prelude.{IfOk, OnOk}
 use Rattle.std.specs.List.{list_any}
 use Rattle.std.specs.Str.{bytes_eq}
 use Rattle.std.proofs.lemmas.List.{length-append}
-use Rattle.zw_scope_sites.specs.Lists.{Finds, IsAt, IsFound, IsTable, IsBindings, at_none, at_some, number_in}
+use Rattle.zw_names.specs.NameSets.{number_in}
+use Rattle.zw_scope_sites.specs.Lists.{Finds, IsAt, IsFound, IsTable, IsBindings, at_none, at_some}
 use Rattle.zw_scope_sites.specs.Scopes.{is_visible_local, has_name, innermost}
 use Rattle.zw_scope_sites.specs.Tables.{IsPut, Leads, Reaches, to_none}
 use Rattle.zw_scope_sites.specs.declared.lists.Binding.{Binding}
@@ -12,8 +13,8 @@ use Rattle.zw_scope_sites.specs.declared.lists.BindingLink.{BindingLink}
 use Rattle.zw_scope_sites.specs.declared.lists.Lists.{Lists}
 use Rattle.zw_scope_sites.specs.declared.tables.Fork.{Fork}
 use Rattle.zw_scope_sites.proofs.ListLemmas.{got-kept, got-last}
-use Rattle.zw_scope_sites.proofs.NumberLemmas.{number_in-more, number_in-same, number_in-within}
-use Rattle.zw_scope_sites.proofs.SetLemmas.{bytes_eq-same, same_bytes}
+use Rattle.zw_names.proofs.NumberLemmas.{number_in-more, number_in-same, number_in-within}
+use Rattle.zw_names.proofs.SetLemmas.{bytes_eq-same, same_bytes}
 
 -- the empty table stands for the empty list
 pub nothing-bound : (lists : Lists) → IsBindings lists 0 []

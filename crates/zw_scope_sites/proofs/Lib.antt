@@ -1,8 +1,5 @@
-pub mod Standing
 pub mod SayLemmas
 pub mod TableLemmas
-pub mod SetLemmas
-pub mod NumberLemmas
 pub mod ListLemmas
 pub mod BoundLemmas
 pub mod SiteLemmas

@@ -4,11 +4,11 @@ use Rattle.std.specs.Prelude.{slice_set}
 use Rattle.std.proofs.lemmas.Bool.{cases_eq, cases_lt}
 use Rattle.std.proofs.lemmas.Option.{slice_get_within, slice_get-get_or}
 use Rattle.zw_tree.specs.Trees.{Forest, tree, count}
-use Rattle.zw_tree.specs.Numbering.{from, inside_first, below, children, parent}
+use Rattle.zw_tree.specs.Numbering.{from, inside_first, below, children, parent, after}
 use Rattle.zw_tree.specs.declared.ast.Entry.{Entry}
 use Rattle.zw_tree.specs.declared.kind.NodeKind.{NodeKind}
 use Rattle.zw_tree.proofs.Descent.{child-parent, parent-child, parent-before}
-use Rattle.zw_scope_sites.specs.Firsts.{kind_at, after}
+use Rattle.zw_scope_sites.specs.Firsts.{kind_at}
 use Rattle.zw_scope_sites.specs.Lists.{Grows}
 use Rattle.zw_scope_sites.specs.Placing.{HasSite, ArePlaced, walked}
 use Rattle.zw_scope_sites.specs.Scopes.{Standing, all_standing, around_file, around_of, behind_child, is_else, is_last, kind_of, stands, taken_scope}

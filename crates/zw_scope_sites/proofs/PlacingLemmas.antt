@@ -2,10 +2,10 @@
 use Rattle.std.proofs.Common.{◌≡◌, ℕ, zero, suc, ◌+◌, ◌<◌, List, [], ◌∷◌, ◌++◌, Some, length, slice_get, refl, sym, ap, ◌∙◌, subst, arith}
 use Rattle.std.proofs.lemmas.List.{length-append}
 use Rattle.zw_tree.specs.Trees.{Forest, none, tree, count}
-use Rattle.zw_tree.specs.Numbering.{from, inside_first, roots}
+use Rattle.zw_tree.specs.Numbering.{from, inside_first, roots, after}
 use Rattle.zw_tree.specs.declared.ast.Entry.{Entry}
 use Rattle.zw_tree.proofs.Nodes.{node_ind, from-inside, from-behind}
-use Rattle.zw_scope_sites.specs.Firsts.{kind_at, after}
+use Rattle.zw_scope_sites.specs.Firsts.{kind_at}
 use Rattle.zw_scope_sites.specs.Placing.{walked}
 use Rattle.zw_scope_sites.specs.Scopes.{Around, Standing, all_standing, around_file, around_of, behind_child, kind_of, scope_of, standing, stands}
 

@@ -3,14 +3,14 @@ use Rattle.std.proofs.Common.{◌≡◌, ℕ, zero, suc, ◌+◌, ◌<◌, ◌�
 use Rattle.std.specs.Option.{option_map}
 use Rattle.std.proofs.lemmas.Option.{slice_get_past, slice_get-get_or}
 use Rattle.zw_tree.specs.Trees.{Forest, none, tree, count}
-use Rattle.zw_tree.specs.Numbering.{from, first_root, inside_first, node_at, below, roots, children}
+use Rattle.zw_tree.specs.Numbering.{from, first_root, inside_first, node_at, below, roots, children, after, behind_first}
 use Rattle.zw_tree.specs.declared.ast.Entry.{Entry}
 use Rattle.zw_tree.specs.declared.ast.Node.{Node}
 use Rattle.zw_tree.proofs.Subtrees.{node-root}
-use Rattle.zw_scope_sites.specs.Firsts.{kind_at, text_at, token_at, after, behind_first}
+use Rattle.zw_scope_sites.specs.Firsts.{kind_at, text_at, token_at}
 use Rattle.zw_scope_sites.specs.Scopes.{ends_in_block, is_block, is_label, is_name, kind_of, label_in, name_in}
 use Rattle.zw_tree.specs.declared.kind.NodeKind.TheVariants.{Unreachable}
-use Rattle.zw_scope_sites.proofs.Standing.{Stands, from-past, from-there, inside-past, child-stands, below-stands, stands-behind, last_get}
+use Rattle.zw_tree.proofs.Standing.{Stands, from-past, from-there, inside-past, child-stands, below-stands, stands-behind, last_get}
 
 root-kind : (f : Forest Entry) (node : Node) → option_map (λ (e : Entry). e.node) (first_root f) ≡ Some node → node.kind ≡ kind_at f
 root-kind none node h = absurd (cc)

@@ -19,7 +19,7 @@ use Rattle.zw_tree.specs.declared.kind.NodeKind.{NodeKind}
 use Rattle.zw_tree.specs.declared.kind.NodeKind.TheVariants.{Const, Var, Capture, PointerCapture, Parameter}
 use Rattle.zw_scope_sites.specs.declared.lists.Binding.{Binding}
 use Rattle.zw_scope_sites.specs.declared.lists.OpenLabel.{OpenLabel}
-use Rattle.zw_scope_sites.proofs.Standing.{Stands, stands-behind, below-stands}
+use Rattle.zw_tree.proofs.Standing.{Stands, stands-behind, below-stands}
 
 -- a node is there
 pub record IsThere (file : Forest Entry) (n : ℕ) : Type 0 where

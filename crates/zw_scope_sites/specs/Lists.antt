@@ -1,10 +1,8 @@
 -- Lists: lists that share their ends, each known by its head, or 0 where it is empty. A list of labels is known by the number of its first
 -- link from 1, a list of bindings by the head of the table that leads from the number of a name to that of its innermost link from 1.
-use Rattle.std.specs.Prelude.{◌≡◌, ℕ, suc, ◌≤◌, false, List, [], ◌∷◌, length, Option, Some, None, Vec, map, slice_get, if◌then◌else◌}
+use Rattle.std.specs.Prelude.{◌≡◌, ℕ, suc, ◌≤◌, false, List, [], ◌∷◌, length, Option, Some, None, slice_get}
 use Rattle.std.specs.List.{list_any}
-use Rattle.std.specs.Str.{bytes_eq}
-use Rattle.std.specs.declared.alloc.Global.{Global}
-use Rattle.indexmap.specs.IndexSet.{IndexSet}
+use Rattle.zw_names.specs.NameSets.{names_in, number_in}
 use Rattle.zw_scope_sites.specs.Scopes.{is_visible_local, innermost}
 use Rattle.zw_scope_sites.specs.Tables.{Leads}
 use Rattle.zw_scope_sites.specs.declared.lists.Binding.{Binding}
@@ -13,15 +11,6 @@ use Rattle.zw_scope_sites.specs.declared.lists.BindingLink.{BindingLink}
 use Rattle.zw_scope_sites.specs.declared.lists.LabelLink.{LabelLink}
 use Rattle.zw_scope_sites.specs.declared.lists.Lists.{Lists}
 use Rattle.zw_scope_sites.specs.declared.tables.Fork.{Fork}
-
--- the names of a set, in their order
-abbrev pub names_in : {S : Type 0} → IndexSet (Vec ℕ Global) S → List (List ℕ)
-names_in set = map (λ name. name.items) set.keys
-
--- how many of these names stand before this one
-abbrev pub number_in : List (List ℕ) → List ℕ → ℕ
-number_in [] name = 0
-number_in (other ∷ names) name = if bytes_eq other name then 0 else suc (number_in names name)
 
 -- the link with this number from 1
 pub data IsAt {L : Type 0} (links : List L) : ℕ → Option L → Type 0 where

@@ -3,7 +3,6 @@
 
 pub mod kinds;
 pub mod lists;
-pub mod names;
 pub mod nodes;
 pub mod place;
 pub mod sites;

@@ -7,12 +7,12 @@ ghost use Rattle.std.specs.Option.{option_map};
 ghost use Rattle.zw_scope_sites.specs.Lists.{Grows, IsBindings, IsFound, IsLabels};
 ghost use Rattle.zw_scope_sites.specs.Scopes.{is_open, is_visible_local, open_label, binds, innermost};
 
-use crate::names::{number_in, number_of};
 use crate::tables::{Fork, get, put};
 use indexmap::IndexSet;
 use sqlite_items::Items;
 use std::alloc::Global;
 use zw_base::Oom;
+use zw_names::{number_in, number_of};
 
 /// A name that is bound to the node of a local constant or variable, a parameter or a capture; or else to the node of a declaration
 /// of a container.

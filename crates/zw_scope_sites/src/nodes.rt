@@ -5,7 +5,7 @@ ghost use Rattle.zw_tree.specs.Trees.{count};
 ghost use Rattle.zw_scope_sites.specs.Firsts.{kind_at, text_at, token_at};
 ghost use Rattle.zw_scope_sites.specs.Scopes.{ends_in_block, label_in, name_in};
 
-use crate::kinds::{is_block, is_else, is_label, is_name};
+use crate::kinds::{is_block, is_label, is_name};
 use zw_tree::{Ast, NodeKind};
 
 /// The node's kind.

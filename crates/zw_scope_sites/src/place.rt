@@ -1,10 +1,9 @@
 // The sites of all nodes of a tree.
 ghost use Rattle.std.specs.Prelude.{◌≡◌, ◌≢◌, ◌<◌, ℕ, suc, length, IfOk, OnOk, slice_get, replicate, Some};
-ghost use Rattle.zw_scope_sites.specs.Firsts.{after};
+ghost use Rattle.zw_tree.specs.Numbering.{after, below, children, parent};
 ghost use Rattle.zw_scope_sites.specs.Lists.{Grows};
 ghost use Rattle.zw_scope_sites.specs.Placing.{AllPlaced, ArePlaced, HasSite};
 ghost use Rattle.zw_scope_sites.specs.Scopes.{Standing, all_standing, is_last};
-ghost use Rattle.zw_tree.specs.Numbering.{below, children, parent};
 ghost use Rattle.zw_tree.specs.Trees.{count};
 
 use crate::kinds::is_else;

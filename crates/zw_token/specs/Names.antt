@@ -1,8 +1,8 @@
 -- The names that stand for types and values, and those of types that aren't in the profile.
-use Rattle.std.specs.Prelude.{ℕ, ◌⊎◌, Bool, false, ◌&&◌, ◌||◌, ◌==◌, IsTrue, List, [], ◌∷◌, map}
+use Rattle.std.specs.Prelude.{ℕ, Bool, false, ◌&&◌, ◌||◌, ◌==◌, List, [], ◌∷◌, map}
 use Rattle.zw_token.specs.declared.names.TheConstants.{PRIMITIVE_NAMES}
 use Rattle.zw_token.specs.Numbers.{is_decimal}
-use Rattle.zw_token.specs.Tables.{IsIn, refused_names}
+use Rattle.zw_token.specs.Tables.{IsIn, is_in, refused_names}
 
 abbrev pub primitive_names : List (List ℕ)
 primitive_names = map (λ text. text.now) PRIMITIVE_NAMES
@@ -13,8 +13,8 @@ is_sized_name [] = false
 is_sized_name (b ∷ digits) = (b == 105 || b == 117) && is_decimal digits
 
 -- the name of a primitive type or value
-abbrev pub IsPrimitiveName : List ℕ → Type 0
-IsPrimitiveName name = IsTrue (is_sized_name name) ⊎ IsIn primitive_names name
+abbrev pub is_primitive : List ℕ → Bool
+is_primitive name = is_sized_name name || is_in primitive_names name
 
 -- the name of a type that isn't in the profile
 abbrev pub IsRefusedName : List ℕ → Type 0

@@ -1,6 +1,5 @@
 // The kinds of bytes, and how many bytes of one kind a text begins with.
 ghost use Rattle.std.specs.Prelude.{◌≡◌, ◌<◌, ◌≤◌, length, IsTrue};
-ghost use Rattle.std.specs.List.{prefix_len};
 ghost use Rattle.zw_token.specs.Bytes.{is_white, is_name_start, is_name_byte, starts_word, starts_number, starts_fraction, starts_comment, starts_blank, blank_len, line_len};
 ghost use Rattle.zw_token.specs.Front.{word_len};
 

@@ -1,5 +1,5 @@
 // The token that stands at the front of what is left of a text, or what is wrong there.
-ghost use Rattle.std.specs.Prelude.{◌≡◌, ◌∷◌, ℕ, ◌+◌, ◌<◌, ◌≤◌, IfOk, length, IsTrue};
+ghost use Rattle.std.specs.Prelude.{◌≡◌, ◌∷◌, ◌+◌, ◌<◌};
 ghost use Rattle.zw_token.specs.declared.token.TokenKind.{TokenKind};
 ghost use Rattle.zw_token.specs.Bytes.{starts_word, starts_number};
 ghost use Rattle.zw_token.specs.Front.{word_len, word_kind, is_refused_word, word_front, number_front, text_front, quoted_front, builtin_front, at_front, character_front, line_text_len, sign_front, line_or_sign_front, mark_front, front};

@@ -1,5 +1,5 @@
 // Laws of the definitions of tokens and of their values.
-ghost use Rattle.std.specs.Prelude.{◌≡◌, ℕ, List, ◌+◌, All, ◌++◌, ◌∷◌, [], ◌==◌, ◌||◌, IsTrue, not, filter, length, take, Some, slice_get};
+ghost use Rattle.std.specs.Prelude.{◌≡◌, ℕ, List, ◌+◌, All, ◌++◌, ◌∷◌, [], ◌==◌, IsTrue, not, filter, take, Some, slice_get};
 ghost use Rattle.zw_token.specs.declared.token.TextError.{TextError};
 ghost use Rattle.zw_token.specs.declared.token.Token.{Token};
 ghost use Rattle.zw_token.specs.declared.token.TokenKind.{TokenKind};

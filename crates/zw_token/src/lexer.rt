@@ -1,5 +1,5 @@
 // The one pass over a text that gives its tokens.
-ghost use Rattle.std.specs.Prelude.{◌≡◌, ℕ, All, ◌<◌, ◌≤◌, length, take, not, count_by, IfOk, IfErr, false, drop};
+ghost use Rattle.std.specs.Prelude.{◌≡◌, All, ◌<◌, ◌≤◌, length, not, count_by, IfOk, IfErr, false, drop};
 ghost use Rattle.std.specs.List.{suffix_len};
 ghost use Rattle.zw_token.specs.declared.token.Token.{Token};
 ghost use Rattle.zw_token.specs.Bytes.{starts_blank, is_line_feed};

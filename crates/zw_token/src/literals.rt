@@ -1,5 +1,5 @@
 // The items of literals, code points and escapes: how many bytes each has, and how many stand up to a quote.
-ghost use Rattle.std.specs.Prelude.{◌≡◌, ◌+◌, ◌<◌, ◌≤◌, Bool, Some, None, length, drop, nat_lt, IfSome, IsTrue, if◌then◌else◌};
+ghost use Rattle.std.specs.Prelude.{◌≡◌, ◌+◌, ◌<◌, ◌≤◌, Some, None, length, drop, IfSome, IsTrue};
 ghost use Rattle.std.specs.Char.{is_ascii_hexdigit};
 ghost use Rattle.std.specs.Str.{is_utf8, continuation_len};
 ghost use Rattle.zw_token.specs.Literals.{point_len, is_simple_escape, starts_byte_digits, hex_len, is_scalar, starts_point_digits, escape_len, item_len, items_len};

@@ -1,6 +1,6 @@
 // The names that stand for types and values of the language, and those of types that aren't in the profile.
 ghost use Rattle.std.specs.Prelude.{◌≡◌, ◌↔◌, IsTrue};
-ghost use Rattle.zw_token.specs.Names.{is_sized_name, IsPrimitiveName, IsRefusedName};
+ghost use Rattle.zw_token.specs.Names.{is_primitive, is_sized_name, IsRefusedName};
 
 use crate::numbers::is_decimal;
 use crate::tables::{REFUSED_NAMES, has};
@@ -34,7 +34,7 @@ fn is_sized_name(name: &[u8]) -> bool
 
 /// Whether the name is that of a primitive type or value. Such a name is never declared.
 pub fn is_primitive_name(name: &[u8]) -> bool
-    ensures { IsTrue result ↔ IsPrimitiveName name.now }
+    ensures { result ≡ is_primitive name.now }
 {
     is_sized_name(name) || has(&PRIMITIVE_NAMES, name)
 }

@@ -1,5 +1,5 @@
 // What the bytes of characters, texts, line texts and quoted names stand for.
-ghost use Rattle.std.specs.Prelude.{◌≡◌, ◌+◌, ◌++◌, ◌<◌, ◌≤◌, ◌^◌, OnOk, OnErr, IfOk, IsSome, Some, List, ℕ, length, take, drop, slice_index, encode_utf8};
+ghost use Rattle.std.specs.Prelude.{◌≡◌, ◌+◌, ◌++◌, ◌<◌, ◌≤◌, ◌^◌, OnOk, IfOk, IsSome, Some, length, slice_index, encode_utf8};
 ghost use Rattle.std.specs.Char.{IsScalar};
 ghost use Rattle.zw_token.specs.declared.token.TokenKind.{TokenKind};
 ghost use Rattle.zw_token.specs.Literals.{simple_escape, escape_len, escape_number, escape_bytes, item_len, item_at, point_number, items_bytes};

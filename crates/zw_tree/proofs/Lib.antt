@@ -5,3 +5,4 @@ pub mod Families
 pub mod Descent
 pub mod Subtrees
 pub mod Regrown
+pub mod Standing

@@ -23,6 +23,20 @@ abbrev pub inside_first : {A : Type 0} → Forest A → Forest A
 inside_first none = none
 inside_first (tree root inside behind) = inside
 
+-- the trees behind the first one, and those behind the first k
+abbrev pub behind_first : {A : Type 0} → Forest A → Forest A
+behind_first none = none
+behind_first (tree root inside behind) = behind
+
+abbrev pub after : {A : Type 0} → ℕ → Forest A → Forest A
+after zero forest = forest
+after (suc k) forest = after k (behind_first forest)
+
+-- the trees of a forest, each with those behind it
+abbrev pub siblings : {A : Type 0} → Forest A → List (Forest A)
+siblings none = []
+siblings (tree root inside behind) = tree root inside behind ∷ siblings behind
+
 -- the trees below a node
 abbrev pub below : {A : Type 0} → Forest A → ℕ → Forest A
 below forest n = inside_first (from forest n)

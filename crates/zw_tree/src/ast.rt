@@ -1,5 +1,5 @@
 // A tree as a list of nodes, each with its parent and its children, to which nodes are added in preorder.
-ghost use Rattle.std.specs.Prelude.{◌≡◌, ℕ, ◌<◌, ◌^◌, ◌-◌, length, map, IfSome, IfOk, OnOk, OnErr};
+ghost use Rattle.std.specs.Prelude.{◌≡◌, ◌<◌, ◌^◌, ◌-◌, length, IfSome, IfOk, OnOk, OnErr};
 ghost use Rattle.std.specs.Option.{option_map};
 ghost use Rattle.zw_tree.specs.Growth.{MayGrow, grown};
 ghost use Rattle.zw_tree.specs.Numbering.{node_at, child, children, parent};

@@ -1,6 +1,6 @@
 // The parts of a module as bytes, each appended to those before it. Sizes and numbers of items are 32 bits wide in
 // the format: a list of more items or bytes ends as want of memory does.
-ghost use Rattle.std.specs.Prelude.{◌≡◌, ℕ, List, ◌++◌, length, All, OnOk};
+ghost use Rattle.std.specs.Prelude.{◌≡◌, ℕ, List, ◌++◌, All, OnOk};
 ghost use Rattle.std.specs.List.{flat_map};
 ghost use Rattle.zw_wasm.specs.Fits.{Fits32, Countable, FitsVector, FitsSection};
 ghost use Rattle.zw_leb.specs.Leb.{unsigned, signed};

@@ -9,6 +9,7 @@ mod laws;
 mod module;
 mod num;
 mod place;
+mod types;
 mod writing;
 
 pub use execution::{
@@ -25,4 +26,5 @@ pub use module::{
 };
 pub use num::Num;
 pub use place::PlaceCode;
+pub use types::{func_type, same_type};
 pub use writing::write;

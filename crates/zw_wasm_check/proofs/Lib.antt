@@ -3,7 +3,6 @@ pub mod Reading
 pub mod Coding
 pub mod Ends
 pub mod LocalLemmas
-pub mod NameLemmas
 pub mod RefusedLemmas
 pub mod OutsideLemmas
 pub mod SizeLemmas

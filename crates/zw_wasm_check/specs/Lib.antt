@@ -1,7 +1,6 @@
 pub mod Operands
 pub mod Locals
 pub mod Constants
-pub mod Names
 pub mod Stacks
 pub mod Bodies
 pub mod Check

@@ -8,11 +8,10 @@ ghost use Rattle.zw_wasm.specs.Validity.{check_body};
 ghost use Rattle.zw_wasm_check.specs.Bodies.{place_of};
 ghost use Rattle.zw_wasm_check.specs.Stacks.{context_of};
 
-use crate::context::func_type;
 use crate::locals::Locals;
 use crate::stacks::{Fault, Stacks, Step};
 use std::alloc::{AllocError, Global};
-use zw_wasm::{CodeBody, FuncType, Instr, Module};
+use zw_wasm::{CodeBody, FuncType, Instr, Module, func_type};
 
 /// Where a body breaks a rule: the number of the instruction, and why. Code that stops before its end breaks one behind
 /// its last instruction.

@@ -5,10 +5,10 @@ ghost use Rattle.std.specs.Option.{option_to_list};
 ghost use Rattle.zw_wasm.specs.Typing.{Context, branches_so, check_instr, same_types};
 ghost use Rattle.zw_wasm_check.specs.Stacks.{ComesTo, control_of, outer_of};
 
-use crate::operands::{same_type, take};
+use crate::operands::take;
 use crate::stacks::{Fault, Stacks, Step};
 use std::alloc::{AllocError, Global};
-use zw_wasm::{Instr, ValType};
+use zw_wasm::{Instr, ValType, same_type};
 
 impl Stacks {
     /// A branch to a label.

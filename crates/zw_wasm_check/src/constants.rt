@@ -4,9 +4,8 @@ ghost use Rattle.std.specs.Option.{option_copied};
 ghost use Rattle.zw_wasm.specs.Validity.{constant_type, global_ok, immutable_type, is_constant_of};
 ghost use Rattle.zw_wasm_check.specs.Constants.{ends_at_once};
 
-use crate::operands::same_type;
 use sqlite_items::at;
-use zw_wasm::{GlobalDef, Instr, ValType};
+use zw_wasm::{GlobalDef, Instr, ValType, same_type};
 
 /// Whether code is a constant expression of this type over these globals.
 pub fn is_constant_of(globals: &[GlobalDef], ty: ValType, code: &[Instr]) -> bool

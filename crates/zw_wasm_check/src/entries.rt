@@ -1,13 +1,12 @@
 // The entries of sections outside bodies: whether each may stand in its module (3.2, 3.4).
-ghost use Rattle.std.specs.Prelude.{◌≡◌, ◌+◌, nat_lt, length, option_copied, Some, None, if◌then◌else◌};
+ghost use Rattle.std.specs.Prelude.{◌≡◌, nat_lt, length, option_copied, Some, None, if◌then◌else◌};
 ghost use Rattle.std.specs.List.{list_all};
 ghost use Rattle.zw_wasm.specs.Functions.{func_count, func_type};
-ghost use Rattle.zw_wasm.specs.Validity.{Outside, at_most_pages, data_ok, element_ok, export_is_there, in_limits, is_start_type, max_pages, memory_ok, start_section, start_violation};
+ghost use Rattle.zw_wasm.specs.Validity.{Outside, at_most_pages, data_ok, element_ok, export_is_there, in_limits, is_start_type, memory_ok, start_section, start_violation};
 ghost use Rattle.zw_wasm.specs.declared.module.FuncType.{FuncType};
 
 use crate::constants::is_constant_of;
-use crate::context::func_type;
-use zw_wasm::{DataSegment, Element, ExportDef, FuncType, Limits, Module, ValType};
+use zw_wasm::{DataSegment, Element, ExportDef, FuncType, Limits, Module, ValType, func_type};
 
 /// The greatest number of pages in a memory.
 const MAX_PAGES: u32 = 65_536;

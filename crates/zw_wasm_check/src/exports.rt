@@ -1,13 +1,11 @@
 // The exports of a module: each is there, and no two have one name (3.4.8, 3.4.10).
-ghost use Rattle.std.specs.Prelude.{◌≡◌, ◌++◌, ◌∷◌, [], IfOk, MatchBool, true, false};
-ghost use Rattle.std.specs.List.{list_any};
-ghost use Rattle.std.specs.Str.{bytes_eq};
+ghost use Rattle.std.specs.Prelude.{◌≡◌, IfOk};
 ghost use Rattle.zw_wasm.specs.Validity.{export_ok, first_refused};
-ghost use Rattle.zw_wasm_check.specs.Names.{names_in};
 
 use crate::entries::is_there;
 use indexmap::IndexSet;
 use std::alloc::{AllocError, Global};
+use zw_names::insert;
 use zw_wasm::Module;
 
 /// The number of the first export that isn't there or has the name of an earlier one.
@@ -24,14 +22,4 @@ pub fn refused_export(alloc: Global, m: &Module) -> Result<Option<usize>, AllocE
         }
     }
     Ok(None)
-}
-
-/// Puts a name into a set, and answers whether it is new there.
-fn insert(alloc: Global, names: &mut IndexSet<Vec<u8>>, name: &[u8]) -> Result<bool, AllocError>
-    ensures { IfOk result (λ is_new. MatchBool is_new
-        ((names_in names.new ≡ names_in names.old ++ name.now ∷ []) × (list_any (bytes_eq name.now) (names_in names.old) ≡ false))
-        (list_any (bytes_eq name.now) (names_in names.old) ≡ true)) }
-{
-    let (_, is_new) = names.insert_full(Vec::from_slice(alloc, name)?)?;
-    Ok(is_new)
 }

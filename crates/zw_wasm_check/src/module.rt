@@ -1,5 +1,5 @@
 // Whole modules (3.4.10).
-ghost use Rattle.std.specs.Prelude.{◌≡◌, IfOk};
+ghost use Rattle.std.specs.Prelude.{◌≡◌};
 ghost use Rattle.zw_wasm.specs.Fits.{Fits};
 ghost use Rattle.zw_wasm.specs.Validity.{IsValid, bodies_violation};
 ghost use Rattle.zw_wasm.specs.WellFormed.{IsWellFormed};

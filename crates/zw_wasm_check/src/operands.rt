@@ -2,12 +2,12 @@
 // code out of reach takes it from nowhere.
 ghost use Rattle.std.specs.Prelude.{◌≡◌, Some, None, OnOk, if◌then◌else◌};
 ghost use Rattle.std.specs.Option.{option_to_list};
-ghost use Rattle.zw_wasm.specs.Typing.{all_taken, one_taken, put_on, same_type, taken};
+ghost use Rattle.zw_wasm.specs.Typing.{all_taken, one_taken, put_on, taken};
 ghost use Rattle.zw_wasm_check.specs.Operands.{one_of, operands_of};
 
 use sqlite_items::Items;
 use std::alloc::AllocError;
-use zw_wasm::ValType;
+use zw_wasm::{ValType, same_type};
 
 /// Takes the last operand, of any type. Code out of reach finds one where none is left.
 pub fn take_one(operands: &mut Items<Option<ValType>>, unreachable: bool) -> Option<Option<ValType>>
@@ -28,16 +28,6 @@ pub fn take(operands: &mut Items<Option<ValType>>, ty: ValType, unreachable: boo
         Some(None) => true,
         None => false,
     }
-}
-
-/// Whether two types are the same.
-pub fn same_type(left: ValType, right: ValType) -> bool
-    ensures { result ≡ same_type left right }
-{
-    matches!(
-        (left, right),
-        (ValType::I32, ValType::I32) | (ValType::I64, ValType::I64)
-    )
 }
 
 /// Takes operands of these types, of which the last is taken first, and tells whether they are there.

@@ -1,5 +1,5 @@
 // One instruction (3.3).
-ghost use Rattle.std.specs.Prelude.{◌≡◌, IfOk};
+ghost use Rattle.std.specs.Prelude.{IfOk};
 ghost use Rattle.zw_wasm.specs.Typing.{check_instr};
 ghost use Rattle.zw_wasm_check.specs.Stacks.{ComesTo, context_of};
 

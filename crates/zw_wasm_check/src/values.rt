@@ -8,13 +8,16 @@ ghost use Rattle.zw_wasm_check.specs.Operands.{operand_of};
 ghost use Rattle.zw_wasm_check.specs.Stacks.{ComesTo, context_of};
 
 use crate::accesses::{load_alignment, load_type, store_alignment, store_type};
-use crate::context::{func_type, local_type};
+use crate::context::local_type;
 use crate::locals::Locals;
-use crate::operands::{put, same_type, take, take_all, take_one};
+use crate::operands::{put, take, take_all, take_one};
 use crate::stacks::{Fault, Stacks, Step};
 use sqlite_items::at;
 use std::alloc::AllocError;
-use zw_wasm::{Conversion, FuncType, Instr, LoadKind, MemoryArgument, Module, StoreKind, ValType};
+use zw_wasm::{
+    Conversion, FuncType, Instr, LoadKind, MemoryArgument, Module, StoreKind, ValType, func_type,
+    same_type,
+};
 
 impl Stacks {
     /// A call of a function.

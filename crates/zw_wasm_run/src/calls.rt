@@ -1,10 +1,8 @@
 // Calls of functions that have a body, on the stacks of a call (4.4.5.10, 4.4.7.1).
-ghost use Rattle.std.specs.Prelude.{◌≡◌, ◌-◌, ◌≤◌, ◌++◌, length, option_copied, slice_get, OnOk, IfOk, IfErr};
-ghost use Rattle.std.specs.Option.{option_to_list};
+ghost use Rattle.std.specs.Prelude.{◌-◌, ◌≤◌, length, IfOk, IfErr};
 ghost use Rattle.zw_wasm.specs.declared.module.Module.{Module};
-ghost use Rattle.zw_wasm.specs.Functions.{func_type, func_type_indices};
+ghost use Rattle.zw_wasm.specs.Functions.{func_type};
 ghost use Rattle.zw_wasm.specs.Reduction.{called};
-ghost use Rattle.zw_wasm_words.specs.Words.{zero_words};
 ghost use Rattle.zw_wasm_run.specs.Running.{ActsOnStacks};
 ghost use Rattle.zw_wasm_run.specs.Rooms.{KeepsRoom, WantsForCall};
 
@@ -12,7 +10,7 @@ use crate::begin::results;
 use crate::stacks::Stacks;
 use sqlite_items::at;
 use std::alloc::AllocError;
-use zw_wasm::{FuncType, Module};
+use zw_wasm::{Module, func_type};
 use zw_wasm_words::{Effect, FRAMES, Frame, NO_RULE, push_locals};
 
 /// How many frames may be active.
@@ -51,22 +49,4 @@ pub fn call(m: &Module, func: usize, stacks: &mut Stacks) -> Result<Effect, Allo
         labels: stacks.labels.len(),
     };
     Ok(Effect::Goes)
-}
-
-/// The type of a function, by its number among the imported ones and those with a body, where both are there.
-pub fn func_type(m: &Module, func: usize) -> Option<&FuncType>
-    ensures { option_copied result ≡ func_type m.now func }
-{
-    let number = type_number(m, func)?;
-    at(m.types.as_slice(), number as usize)
-}
-
-/// The number of a function's type.
-fn type_number(m: &Module, func: usize) -> Option<u32>
-    ensures { result ≡ slice_get (func_type_indices m.now) func }
-{
-    if func < m.imports.len() {
-        return Some(m.imports.as_slice()[func].ty);
-    }
-    at(m.funcs.as_slice(), func - m.imports.len()).copied()
 }

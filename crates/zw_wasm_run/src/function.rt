@@ -1,12 +1,11 @@
 // Calls of functions of a module from outside, imported ones and those with a body (4.5.5).
-ghost use Rattle.std.specs.Prelude.{◌≡◌, ◌≤◌, ◌<◌, Some, length, IfErr, IfOk};
+ghost use Rattle.std.specs.Prelude.{◌≡◌, ◌<◌, Some, length, IfErr, IfOk};
 ghost use Rattle.zw_wasm.specs.Functions.{func_type};
 ghost use Rattle.zw_wasm.specs.Validity.{IsValid};
 ghost use Rattle.zw_wasm_run.specs.Invocation.{Called, MayCall, number_in, outcome_of};
 ghost use Rattle.zw_wasm_run.specs.Rooms.{FunctionWants, KeepsRoom};
 
 use crate::ask::{Answer, ask_host};
-use crate::calls::func_type;
 use crate::code::Code;
 use crate::entry::{begin, push_args};
 use crate::event::{Event, Outcome};
@@ -17,7 +16,7 @@ use crate::shown::number;
 use crate::stacks::Stacks;
 use crate::store::Store;
 use std::alloc::AllocError;
-use zw_wasm::{FuncType, Module, Num, ValType};
+use zw_wasm::{FuncType, Module, Num, ValType, func_type};
 use zw_wasm_words::{BOUNDS, NO_RULE};
 
 /// Calls a function with arguments of its types. At most so many steps are taken, and what is left of them is told.

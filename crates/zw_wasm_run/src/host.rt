@@ -1,17 +1,16 @@
 // Calls of functions of the host, on the stacks of a call (4.4.7.3).
-ghost use Rattle.std.specs.Prelude.{◌≡◌, ◌<◌, length, IfOk};
+ghost use Rattle.std.specs.Prelude.{◌<◌, length, IfOk};
 ghost use Rattle.zw_wasm_run.specs.Hosting.{CallsHostOn};
 ghost use Rattle.zw_wasm_run.specs.Machines.{AreShows};
 ghost use Rattle.zw_wasm_run.specs.Rooms.{KeepsRoom};
 
 use crate::ask::{Answer, ask_host};
-use crate::calls::func_type;
 use crate::event::Event;
 use crate::machine::Show;
 use crate::replies::Replies;
 use crate::stacks::Stacks;
 use std::alloc::AllocError;
-use zw_wasm::Module;
+use zw_wasm::{Module, func_type};
 use zw_wasm_words::{BOUNDS, NO_RULE};
 
 /// What a call of a function of the host comes to.

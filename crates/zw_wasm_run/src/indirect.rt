@@ -4,19 +4,19 @@ ghost use Rattle.std.specs.Option.{option_to_list};
 ghost use Rattle.zw_wasm.specs.Functions.{func_type};
 ghost use Rattle.zw_wasm.specs.declared.module.Instr.TheVariants as instr;
 ghost use Rattle.zw_wasm.specs.Reduction.{act, label_or, same_func_type};
-ghost use Rattle.zw_wasm.specs.Typing.{same_type, same_types};
+ghost use Rattle.zw_wasm.specs.Typing.{same_types};
 ghost use Rattle.zw_wasm_run.specs.Running.{ActsOnStacks, body_of};
 ghost use Rattle.zw_wasm_run.specs.Stores.{Calls, Executes, entry_of};
 ghost use Rattle.zw_wasm_run.specs.Rooms.{KeepsRoom, Wants, WantsForCall};
 
-use crate::calls::{call, func_type};
+use crate::calls::call;
 use crate::execute::taken;
 use crate::pause::Taken;
 use crate::stacks::{Stacks, branch};
 use crate::store::Store;
 use sqlite_items::at;
 use std::alloc::AllocError;
-use zw_wasm::{FuncType, Module, ValType};
+use zw_wasm::{FuncType, Module, ValType, func_type, same_type};
 use zw_wasm_words::{Effect, NO_ENTRY, NO_RULE, SIGNATURE, low};
 
 /// A branch where the last operand isn't 0.
@@ -143,19 +143,9 @@ fn are_same(left: &[ValType], right: &[ValType]) -> bool
         return false;
     }
     for place in 0..left.len() {
-        if !is_same(left[place], right[place]) {
+        if !same_type(left[place], right[place]) {
             return false;
         }
     }
     true
-}
-
-/// Whether two types are the same.
-fn is_same(left: ValType, right: ValType) -> bool
-    ensures { result ≡ same_type left right }
-{
-    matches!(
-        (left, right),
-        (ValType::I32, ValType::I32) | (ValType::I64, ValType::I64)
-    )
 }

@@ -1,12 +1,8 @@
 // Machines: how they are made, what they are asked, and their calls.
-ghost use Rattle.std.specs.Prelude.{◌≡◌, ◌+◌, ◌*◌, ◌^◌, ◌<◌, ◌≤◌, List, length, map, replicate, Option, Some, None, true, IfErr, IfOk, MatchOption, MatchResult, OnOk};
-ghost use Rattle.zw_wasm.specs.declared.module.DataSegment.{DataSegment};
-ghost use Rattle.zw_wasm.specs.declared.module.Element.{Element};
+ghost use Rattle.std.specs.Prelude.{◌≡◌, ◌+◌, ◌*◌, ◌^◌, ◌<◌, ◌≤◌, length, map, Option, Some, None, true, IfErr, IfOk, MatchOption, OnOk};
 ghost use Rattle.zw_wasm.specs.Functions.{func_type};
-ghost use Rattle.zw_wasm.specs.ModuleMachine.{export_in, exported_global, first_sizes, first_store, first_values, param_types};
-ghost use Rattle.zw_wasm.specs.Reduction.{page_size};
+ghost use Rattle.zw_wasm.specs.ModuleMachine.{export_in, exported_global, first_sizes, first_values, param_types};
 ghost use Rattle.zw_wasm_reach.specs.Counts as counts;
-ghost use Rattle.zw_wasm_words.specs.Segments.{first_outside};
 ghost use Rattle.zw_wasm_run.specs.MachineCalls.{CallEnds, SameButStacks, SameCode};
 ghost use Rattle.zw_wasm_run.specs.Machines.{ArePanicState, Begins, IsOutOfRange, NoPanicState, Remembers, Tabled, bytes_of_memory, store_of};
 ghost use Rattle.zw_wasm_run.specs.Premises.{type_of};
@@ -14,7 +10,6 @@ ghost use Rattle.zw_wasm_run.specs.Reserves.{HasRoom, IsOutside, KeepsReserve};
 ghost use Rattle.zw_wasm_run.specs.Rooms.{calling};
 ghost use Rattle.zw_wasm_run.specs.Shows.{AreShows, IsExported};
 
-use crate::calls::func_type;
 use crate::code::Code;
 use crate::entry::no_stacks;
 use crate::event::{Event, Outcome};
@@ -27,6 +22,7 @@ use std::alloc::{AllocError, Global};
 use std::fmt;
 use zw_wasm::{
     ExportDef, FuncType, Limits, Module, Num, exported_function, exported_global, first_globals,
+    func_type,
 };
 use zw_wasm_check::Checked;
 use zw_wasm_reach::deepest;

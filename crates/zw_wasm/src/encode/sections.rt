@@ -2,7 +2,7 @@
 ghost use Rattle.std.specs.Prelude.{◌≡◌, ◌++◌, All, IfSome, OnOk, IfOk};
 ghost use Rattle.zw_wasm.specs.Fits.{Fits, Fits32, FitsLimits, FitsSection, FitsFront, FitsBack};
 ghost use Rattle.std.specs.List.{flat_map};
-ghost use Rattle.zw_wasm.specs.Spelling.{table_type, limits, list_section, start_section, front_sections, back_sections, spelling};
+ghost use Rattle.zw_wasm.specs.Spelling.{table_type, list_section, start_section, front_sections, back_sections, spelling};
 
 use super::{Encode, push_each, push_length, push_list_section, push_section, push_u32};
 use crate::{Limits, Module};

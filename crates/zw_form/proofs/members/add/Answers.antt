@@ -1,5 +1,5 @@
 use Rattle.std.proofs.Common.{◌∷◌, [], ◌++◌, map, append-nil, sym, ap, ◌∙◌}
-use Rattle.zw_form.specs.NameSets.{names_in}
+use Rattle.zw_names.specs.NameSets.{names_in}
 use Rattle.zw_form.specs.Rules.{name_of}
 use Rattle.zw_form.proofs.MemberLemmas.{old-among, old-mark, new-alone, new-mark}
 use Rattle.zw_form.proofs.members.add.Goals as goal

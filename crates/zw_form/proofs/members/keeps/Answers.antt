@@ -2,7 +2,7 @@ use Rattle.std.proofs.Common.{◌≡◌, ◌↔◌, IsTrue, Bool, Some, All, len
 use Rattle.std.proofs.lemmas.Option.{slice_get_read}
 use Rattle.std.proofs.lemmas.Result.{IfOk-weaker}
 use Rattle.zw_form.specs.Listed.{IsKept}
-use Rattle.zw_form.specs.NameSets.{names_in}
+use Rattle.zw_names.specs.NameSets.{names_in}
 use Rattle.zw_form.specs.Rules.{KeepsNames, KeepsSteps, externs_of, export_of}
 use Rattle.zw_form.proofs.ListedLemmas.{kept-by}
 use Rattle.zw_form.proofs.members.keeps.Goals as goal

@@ -1,5 +1,5 @@
 use Rattle.std.proofs.Common.{◌∙◌, length, ◌-◌, slice_get, ap, sym, arith}
-use Rattle.zw_form.proofs.Standing.{last-child, no-child}
+use Rattle.zw_tree.proofs.Standing.{last-child, no-child}
 use Rattle.zw_form.proofs.members.last_below.Goals as goal
 
 pub loop-last-smaller : goal.loop-last-smaller

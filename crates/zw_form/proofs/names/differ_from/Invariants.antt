@@ -1,5 +1,5 @@
 use Rattle.std.proofs.Common.{All, Contains, take}
-use Rattle.zw_form.specs.NameSets.{names_in}
+use Rattle.zw_names.specs.NameSets.{names_in}
 use Rattle.zw_form.proofs.names.differ_from.Given as goal
 
 abbrev pub invariant-loop-name : goal.invariant-loop-name

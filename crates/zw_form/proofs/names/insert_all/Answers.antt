@@ -1,5 +1,5 @@
 use Rattle.std.proofs.Common.{arith}
-use Rattle.zw_form.specs.NameSets.{names_in}
+use Rattle.zw_names.specs.NameSets.{names_in}
 use Rattle.zw_form.proofs.FirstLemmas.{first_of_each-item, first_of_each-whole}
 use Rattle.zw_form.proofs.names.insert_all.Goals as goal
 

@@ -1,5 +1,5 @@
 use Rattle.std.proofs.Common.{◌≡◌, ◌++◌, take}
-use Rattle.zw_form.specs.NameSets.{names_in}
+use Rattle.zw_names.specs.NameSets.{names_in}
 use Rattle.zw_form.specs.Programs.{first_of_each}
 use Rattle.zw_form.proofs.names.insert_all.Given as goal
 

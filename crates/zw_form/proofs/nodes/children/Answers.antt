@@ -1,7 +1,7 @@
 use Rattle.std.proofs.Common.{◌∙◌, ap, map, arith}
 use Rattle.zw_tree.specs.Numbering.{from}
 use Rattle.zw_form.proofs.SayLemmas.{siblings-past}
-use Rattle.zw_form.proofs.Standing.{children-are}
+use Rattle.zw_tree.proofs.Standing.{children-are}
 use Rattle.zw_form.proofs.nodes.children.Goals as goal
 
 pub returns-then-n-count : goal.returns-then-n-count

@@ -1,5 +1,5 @@
 use Rattle.std.proofs.Common.{arith, ap, ◌∙◌}
-use Rattle.zw_form.specs.NameSets.{names_in}
+use Rattle.zw_names.specs.NameSets.{names_in}
 use Rattle.zw_form.proofs.KeptLemmas.{called-item, called-same}
 use Rattle.zw_form.proofs.resolve.called_in.Goals as goal
 use Rattle.zw_form.proofs.resolve.called_in.Goals.{in-Export+in_ok-insert_all, in_default}

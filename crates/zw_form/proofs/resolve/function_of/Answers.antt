@@ -1,5 +1,5 @@
 use Rattle.std.proofs.Common.{◌∙◌}
-use Rattle.zw_form.specs.NameSets.{names_in}
+use Rattle.zw_names.specs.NameSets.{names_in}
 use Rattle.zw_form.proofs.FirstLemmas.{first_of_each-differ}
 use Rattle.zw_form.proofs.ProgramLemmas.{function_of-made}
 use Rattle.zw_form.proofs.resolve.function_of.Goals as goal

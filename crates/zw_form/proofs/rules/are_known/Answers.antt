@@ -1,6 +1,6 @@
 use Rattle.std.proofs.Common.{arith, refl}
 use Rattle.std.proofs.lemmas.Bool.{false≢true}
-use Rattle.zw_form.specs.NameSets.{names_in}
+use Rattle.zw_names.specs.NameSets.{names_in}
 use Rattle.zw_form.specs.Rules.{IsKnown, externs_of}
 use Rattle.zw_form.proofs.Items.{All-at_item, All-item, All-whole}
 use Rattle.zw_form.proofs.rules.are_known.Goals as goal

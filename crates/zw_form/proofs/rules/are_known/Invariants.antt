@@ -1,5 +1,5 @@
 use Rattle.std.proofs.Common.{All, take}
-use Rattle.zw_form.specs.NameSets.{names_in}
+use Rattle.zw_names.specs.NameSets.{names_in}
 use Rattle.zw_form.specs.Rules.{IsKnown, externs_of}
 use Rattle.zw_form.proofs.rules.are_known.Given as goal
 

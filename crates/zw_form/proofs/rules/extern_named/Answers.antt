@@ -2,7 +2,7 @@ use Rattle.std.proofs.Common.{◌≢◌, ℕ, List, ◌∙◌, sym, ap}
 use Rattle.zw_form.specs.declared.source.Declaration.TheVariants.{Extern, Export}
 use Rattle.zw_form.specs.declared.source.ExportedFunction.{ExportedFunction}
 use Rattle.zw_form.specs.declared.source.ExternFunction.{ExternFunction}
-use Rattle.zw_form.specs.Programs.{number_in}
+use Rattle.zw_names.specs.NameSets.{number_in}
 use Rattle.zw_form.proofs.KeptLemmas.{extern-found, extern-none, extern-export}
 use Rattle.zw_form.proofs.rules.extern_named.Goals as goal
 

@@ -1,7 +1,7 @@
 use Rattle.std.proofs.Common.{◌≢◌, ◌↔◌, ℕ, List, IsTrue, Bool, refl, sym, subst, ◌∙◌, All, AllPairs, Contains}
 use Rattle.std.proofs.lemmas.Bool.{false≢true}
 use Rattle.std.proofs.lemmas.Result.{IfOk-weaker}
-use Rattle.zw_form.specs.NameSets.{names_in}
+use Rattle.zw_names.specs.NameSets.{names_in}
 use Rattle.zw_form.specs.Rules.{KeepsNames}
 use Rattle.zw_form.proofs.rules.keeps_names.Goals as goal
 use Rattle.zw_form.proofs.rules.keeps_names.Goals.{else-may_be_function-via-then-may_be_function+else-differ_from, else-may_be_function-via-else-may_be_function}

@@ -1,6 +1,6 @@
 use Rattle.std.proofs.Common.{refl}
 use Rattle.std.proofs.lemmas.Bool.{false≢true}
-use Rattle.zw_form.specs.NameSets.{names_in}
+use Rattle.zw_names.specs.NameSets.{names_in}
 use Rattle.zw_form.specs.Rules.{externs_of}
 use Rattle.zw_form.proofs.KeptLemmas.{steps-known, params-mentioned, steps-kept}
 use Rattle.zw_form.proofs.rules.keeps_steps.Goals as goal

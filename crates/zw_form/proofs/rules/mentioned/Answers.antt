@@ -1,5 +1,5 @@
 use Rattle.std.proofs.Common.{arith, ap, ◌∙◌}
-use Rattle.zw_form.specs.NameSets.{names_in}
+use Rattle.zw_names.specs.NameSets.{names_in}
 use Rattle.zw_form.proofs.KeptLemmas.{mentioned-item, mentioned-same}
 use Rattle.zw_form.proofs.rules.mentioned.Goals as goal
 use Rattle.zw_form.proofs.rules.mentioned.Goals.{in-Parameter+in_ok-insert, in_default}

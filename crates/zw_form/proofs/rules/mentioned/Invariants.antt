@@ -1,6 +1,6 @@
 use Rattle.std.proofs.Common.{◌≡◌, [], take}
 use Rattle.std.specs.List.{flat_map}
-use Rattle.zw_form.specs.NameSets.{names_in}
+use Rattle.zw_names.specs.NameSets.{names_in}
 use Rattle.zw_form.specs.Programs.{first_of_each}
 use Rattle.zw_form.specs.Rules.{parameter_of}
 use Rattle.zw_form.proofs.rules.mentioned.Given as goal

@@ -1,9 +1,9 @@
 use Rattle.std.proofs.Common.{List, Option, ap, ◌∙◌, subst, arith}
 use Rattle.std.specs.Option.{option_map, option_and_then}
-use Rattle.zw_tree.specs.Numbering.{from, inside_first}
+use Rattle.zw_tree.specs.Numbering.{from, inside_first, siblings}
 use Rattle.zw_tree.specs.Trees.{Forest}
 use Rattle.zw_tree.specs.declared.ast.Entry.{Entry}
-use Rattle.zw_form.specs.Nodes.{operated, siblings}
+use Rattle.zw_form.specs.Nodes.{operated}
 use Rattle.zw_form.specs.Trees.{Sums}
 use Rattle.zw_form.specs.Work.{AreOperands, sum_work}
 use Rattle.zw_form.proofs.WorkLemmas.{operator-begun, sums-siblings, no-operands, weight-push}

@@ -1,8 +1,7 @@
 use Rattle.std.proofs.Common.{◌≡◌, Bool, length, sym, ap, ◌∙◌, arith}
 use Rattle.std.proofs.lemmas.List.{length-map}
 use Rattle.std.proofs.lemmas.Result.{IfOk-weaker}
-use Rattle.zw_tree.specs.Numbering.{from, inside_first}
-use Rattle.zw_form.specs.Nodes.{siblings}
+use Rattle.zw_tree.specs.Numbering.{from, inside_first, siblings}
 use Rattle.zw_form.specs.Work.{done}
 use Rattle.zw_form.proofs.WorkLemmas.{no-return, return-begun, finished}
 use Rattle.zw_form.proofs.sums.read_return.Goals as goal

@@ -1,7 +1,6 @@
 use Rattle.std.proofs.Common.{◌≡◌, ◌<◌, ◌++◌, All}
-use Rattle.zw_tree.specs.Numbering.{below}
+use Rattle.zw_tree.specs.Numbering.{below, after}
 use Rattle.zw_tree.specs.Trees.{count}
-use Rattle.zw_scope_sites.specs.Firsts.{after}
 use Rattle.zw_scope.specs.Repeats.{entries, names_by}
 use Rattle.zw_scope.proofs.repeats.names_by.Given as goal
 

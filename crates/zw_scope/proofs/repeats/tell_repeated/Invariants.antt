@@ -1,7 +1,7 @@
 use Rattle.std.proofs.Common.{◌≡◌, ℕ, ◌++◌, [], List, drop}
 use Rattle.zw_scope.specs.NameRules.{Violation, repeated}
 use Rattle.zw_scope.specs.Repeats.{Passes, entries}
-use Rattle.zw_scope_sites.specs.Lists.{names_in}
+use Rattle.zw_names.specs.NameSets.{names_in}
 use Rattle.zw_scope.specs.Telling.{IsFirstOf}
 use Rattle.zw_scope.proofs.repeats.tell_repeated.Given as goal
 

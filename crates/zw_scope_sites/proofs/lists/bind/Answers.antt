@@ -1,6 +1,6 @@
 use Rattle.std.proofs.Common.{List, suc, length, ap, ◌∙◌}
 use Rattle.std.proofs.lemmas.Result.{IfOk-weaker}
-use Rattle.zw_scope_sites.specs.Lists.{number_in, names_in}
+use Rattle.zw_names.specs.NameSets.{number_in, names_in}
 use Rattle.zw_scope_sites.specs.declared.lists.BindingLink.{BindingLink}
 use Rattle.zw_scope_sites.proofs.BoundLemmas.{OnOk-from, tables-stay, table-made}
 use Rattle.zw_scope_sites.proofs.lists.bind.Goals as goal

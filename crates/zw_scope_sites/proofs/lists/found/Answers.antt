@@ -1,5 +1,6 @@
 use Rattle.std.proofs.Common.{◌≡◌, ℕ, List, ap, sym, ◌∙◌, subst, suc, slice_get, arith}
-use Rattle.zw_scope_sites.specs.Lists.{IsFound, number_in, names_in}
+use Rattle.zw_names.specs.NameSets.{number_in, names_in}
+use Rattle.zw_scope_sites.specs.Lists.{IsFound}
 use Rattle.zw_scope_sites.specs.Tables.{Leads}
 use Rattle.zw_scope_sites.specs.declared.lists.BindingLink.{BindingLink}
 use Rattle.zw_scope_sites.proofs.ListLemmas.{item-got}

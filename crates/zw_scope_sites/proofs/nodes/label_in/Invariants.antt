@@ -1,6 +1,5 @@
 use Rattle.std.proofs.Common.{◌≡◌}
-use Rattle.zw_tree.specs.Numbering.{below}
-use Rattle.zw_scope_sites.specs.Firsts.{after}
+use Rattle.zw_tree.specs.Numbering.{below, after}
 use Rattle.zw_scope_sites.specs.Scopes.{label_in}
 use Rattle.zw_scope_sites.proofs.nodes.label_in.Given as goal
 

@@ -1,6 +1,7 @@
 use Rattle.std.proofs.Common.{true, false, sym, ◌∙◌}
 use Rattle.zw_wasm.specs.Validity.{export_ok}
-use Rattle.zw_wasm_check.specs.Names.{names_in}
+use Rattle.zw_names.specs.NameSets.{names_in}
+use Rattle.zw_names.proofs.SetLemmas.{any-Contains, any-absent}
 use Rattle.zw_wasm_check.proofs.RefusedLemmas.{refused_here, refused_later, export_absent, export_named, names_more}
 use Rattle.zw_wasm_check.proofs.exports.refused_export.Goals as goal
 
@@ -15,15 +16,15 @@ returns-then-not-branch c =
     let found = rw (c.if-not-branch.true, c.as_slice.ensures) at c.in_ok-insert.ensures in
     sym (c.loop-number.invariant.goes_on
     ∙ refused_here (export_ok c.args.m.now) c.args.m.now.exports c.loop-number.number c.export-item.result (rw c.as_slice-export-items.ensures at c.loop-number-test.true) (rw c.as_slice-export-items.ensures at c.export-item.is)
-    (export_named c.args.m.now c.loop-number.number c.export-item.result (names_in c.loop-number.names) true c.if-not-is_there.ensures c.loop-number.invariant.before found))
+    (export_named c.args.m.now c.loop-number.number c.export-item.result (names_in c.loop-number.names) true c.if-not-is_there.ensures c.loop-number.invariant.before (any-Contains c.export-item.result.name (names_in c.loop-number.names) found.1)))
 
 pub loop-number-preserved : goal.loop-number-preserved
 loop-number-preserved c =
     let new = rw (c.if-not-branch.false, c.as_slice.ensures) at c.in_ok-insert.ensures in
     record {
-      before = names_more c.args.m.now.exports c.loop-number.number c.export-item.result (names_in c.loop-number.names) (names_in c.insert.new.names) (rw c.as_slice-export-items.ensures at c.loop-number-test.true) (rw c.as_slice-export-items.ensures at c.export-item.is) c.loop-number.invariant.before new.0;
+      before = names_more c.args.m.now.exports c.loop-number.number c.export-item.result (names_in c.loop-number.names) (names_in c.insert.new.set) (rw c.as_slice-export-items.ensures at c.loop-number-test.true) (rw c.as_slice-export-items.ensures at c.export-item.is) c.loop-number.invariant.before new.0;
       goes_on =
           c.loop-number.invariant.goes_on
           ∙ refused_later (export_ok c.args.m.now) c.args.m.now.exports c.loop-number.number c.export-item.result (rw c.as_slice-export-items.ensures at c.loop-number-test.true) (rw c.as_slice-export-items.ensures at c.export-item.is)
-          (export_named c.args.m.now c.loop-number.number c.export-item.result (names_in c.loop-number.names) false c.if-not-is_there.ensures c.loop-number.invariant.before new.1);
+          (export_named c.args.m.now c.loop-number.number c.export-item.result (names_in c.loop-number.names) false c.if-not-is_there.ensures c.loop-number.invariant.before (any-absent c.export-item.result.name (names_in c.loop-number.names) new.1));
     }

@@ -1,7 +1,7 @@
 use Rattle.std.proofs.Common.{◌≡◌, map, take, drop}
 use Rattle.zw_wasm.specs.Validity.{export_ok, first_refused}
 use Rattle.zw_wasm.specs.declared.module.ExportDef.{ExportDef}
-use Rattle.zw_wasm_check.specs.Names.{names_in}
+use Rattle.zw_names.specs.NameSets.{names_in}
 use Rattle.zw_wasm_check.proofs.exports.refused_export.Given as goal
 
 abbrev pub invariant-loop-number : goal.invariant-loop-number

@@ -1,5 +1,5 @@
--- Sets of names in the order in which they come.
-use Rattle.std.proofs.Common.{◌≡◌, ℕ, Bool, true, false, not, ◌||◌, if◌then◌else◌, List, [], ◌∷◌, ◌++◌, map, MatchBool, Contains, refl, sym, ap, ◌∙◌, true≢false}
+-- Names in sets, as lists of their bytes.
+use Rattle.std.proofs.Common.{◌≡◌, ◌↔◌, ℕ, Bool, true, false, not, ◌||◌, if◌then◌else◌, List, [], ◌∷◌, ◌++◌, map, IsTrue, MatchBool, Contains, refl, sym, ap, ◌∙◌, true≢false}
 use Rattle.std.specs.Prelude.{Vec}
 use Rattle.std.specs.declared.alloc.Global.{Global}
 use Rattle.std.specs.List.{list_any}
@@ -16,6 +16,13 @@ same_bytes x y = (bytes_eq-Decides x y).0
 
 pub bytes_eq-same : (x y : List ℕ) → x ≡ y → bytes_eq x y ≡ true
 bytes_eq-same x y = (bytes_eq-Decides x y).1
+
+pub bytes_eq-apart : (x y : List ℕ) → (x ≡ y → ⊥) → bytes_eq x y ≡ false
+bytes_eq-apart x y apart = not_from (bytes_eq x y) refl
+  where
+    not_from : (b : Bool) → bytes_eq x y ≡ b → bytes_eq x y ≡ false
+    not_from true e = absurd (apart (same_bytes x y e))
+    not_from false e = e
 
 -- a name is in a list exactly if a test finds it
 pub Contains-any : (q : List ℕ) (xs : List (List ℕ)) → list_any (bytes_eq q) xs ≡ true → Contains xs q
@@ -41,6 +48,13 @@ names_of keys = map (λ (k : Vec ℕ Global). k.items) keys
 pub any_key : (q : List ℕ) (keys : List (Vec ℕ Global)) → list_any (λ (k : Vec ℕ Global). bytes_eq q k.items) keys ≡ list_any (bytes_eq q) (names_of keys)
 any_key q [] = refl
 any_key q (k ∷ ks) = ap (λ b. bytes_eq q k.items || b) (any_key q ks)
+
+-- what a set finds
+pub IsTrue-holds : (q : List ℕ) (keys : List (Vec ℕ Global)) (r : Bool) → r ≡ list_any (λ (k : Vec ℕ Global). bytes_eq q k.items) keys → IsTrue r ↔ Contains (names_of keys) q
+IsTrue-holds q keys r e = (
+  λ t. Contains-any q (names_of keys) (sym (e ∙ any_key q keys) ∙ t),
+  λ there. e ∙ any_key q keys ∙ any-Contains q (names_of keys) there,
+)
 
 -- a name that is put into a set goes last where it is new
 pub MatchBool-insert : (keys keys' : List (Vec ℕ Global)) (v : Vec ℕ Global) (name : List ℕ) (is_new : Bool) → v.items ≡ name

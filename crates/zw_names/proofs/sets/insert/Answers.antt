@@ -1,5 +1,5 @@
-use Rattle.zw_form.proofs.NameLemmas.{MatchBool-insert}
-use Rattle.zw_form.proofs.names.insert.Goals as goal
+use Rattle.zw_names.proofs.SetLemmas.{MatchBool-insert}
+use Rattle.zw_names.proofs.sets.insert.Goals as goal
 
 pub returns : goal.returns
 returns c =

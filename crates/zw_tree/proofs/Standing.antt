@@ -2,9 +2,8 @@
 use Rattle.std.proofs.Common.{◌≡◌, ℕ, zero, suc, ◌+◌, ◌-◌, ◌<◌, ◌≤◌, ◌⊎◌, inl, inr, List, [], ◌∷◌, map, length, Some, None, MatchOption, slice_get, refl, sym, ap, ◌∙◌, subst, arith}
 use Rattle.std.proofs.lemmas.Bool.{cases_lt}
 use Rattle.zw_tree.specs.Trees.{Forest, none, tree, count}
-use Rattle.zw_tree.specs.Numbering.{from, inside_first, below, last, roots, children, child}
+use Rattle.zw_tree.specs.Numbering.{from, inside_first, below, last, roots, children, child, siblings, after}
 use Rattle.zw_tree.proofs.Nodes.{node_ind, from-inside, from-behind, last-within}
-use Rattle.zw_form.specs.Nodes.{siblings, after}
 
 pub last_get : {X : Type 0} (xs : List X) (x : X) → slice_get xs (length xs - 1) ≡ Some x → (length xs - 1) + 1 ≡ length xs
 last_get [] x at = absurd (cc)

@@ -1,6 +1,6 @@
 use Rattle.std.proofs.Common.{sym, ◌∙◌}
-use Rattle.zw_form.proofs.NameLemmas.{number_in-Some, number_in-None}
-use Rattle.zw_form.proofs.names.number_in.Goals as goal
+use Rattle.zw_names.proofs.NumberLemmas.{number_in-Some, number_in-None}
+use Rattle.zw_names.proofs.sets.number_in.Goals as goal
 
 pub returns-in-Some : goal.returns-in-Some
 returns-in-Some c =

@@ -8,9 +8,8 @@ use Rattle.std.specs.Cmp.Lexicographic.{nat_list_eq_equiv}
 use Rattle.std.proofs.lemmas.List.{append-nil, length-map}
 use Rattle.std.proofs.lemmas.Option.{slice_get-get_or}
 use Rattle.std.proofs.lemmas.Bool.Decides.{nat_tests}
-use Rattle.zw_scope_sites.specs.Lists.{number_in}
-use Rattle.zw_scope_sites.proofs.ListLemmas.{got-last}
-use Rattle.zw_scope_sites.proofs.SetLemmas.{bytes_eq-same, same_bytes, names_of}
+use Rattle.zw_names.specs.NameSets.{number_in}
+use Rattle.zw_names.proofs.SetLemmas.{bytes_eq-same, same_bytes, names_of}
 
 -- the place of the first key that is a name is the number of the name
 number_in-place : (q : List ℕ) (keys : List (Vec ℕ Global)) → number_in (names_of keys) q ≡ position_or_len (λ (k : Vec ℕ Global). bytes_eq q k.items) keys
@@ -92,9 +91,14 @@ number_in-same (name ∷ names) p q within same = by (bytes_eq name p) (bytes_eq
     by false true e f later = let s = rw (e, f) at same in absurd (omega arith)
     by false false e f later = let s = rw (e, f) at same in let w = rw e at within in later (omega arith) (omega arith)
 
+-- what stands last in a list
+last-got : (names : List (List ℕ)) (q : List ℕ) → slice_get (names ++ q ∷ []) (length names) ≡ Some q
+last-got [] q = refl
+last-got (name ∷ names) q = last-got names q
+
 -- a name that was put into a set is there
 pub number_in-put : (old new : List (List ℕ)) (q : List ℕ) (is_new : Bool) → MatchBool is_new ((new ≡ old ++ q ∷ []) × (Contains old q → ⊥)) ((new ≡ old) × Contains old q) → number_in new q < length new
-number_in-put old new q true h = rw h.0 (number_in-at (old ++ q ∷ []) q (length old) (got-last old q))
+number_in-put old new q true h = rw h.0 (number_in-at (old ++ q ∷ []) q (length old) (last-got old q))
 number_in-put old new q false h = rw h.0 (number_in-there old q h.1)
 
 pub more-put : (old new : List (List ℕ)) (q : List ℕ) (is_new : Bool) → MatchBool is_new ((new ≡ old ++ q ∷ []) × (Contains old q → ⊥)) ((new ≡ old) × Contains old q) → (more : List (List ℕ)) × (new ≡ old ++ more)

@@ -1,7 +1,7 @@
 use Rattle.std.proofs.Common.{sym, subst, length, ◌<◌}
-use Rattle.zw_scope_sites.proofs.NumberLemmas.{number_in-put}
-use Rattle.zw_scope_sites.specs.Lists.{names_in}
-use Rattle.zw_scope_sites.proofs.names.number_of.Goals as goal
+use Rattle.zw_names.proofs.NumberLemmas.{number_in-put}
+use Rattle.zw_names.specs.NameSets.{names_in}
+use Rattle.zw_names.proofs.sets.number_of.Goals as goal
 
 pub returns-clause-within : goal.returns-clause-within
 returns-clause-within c =

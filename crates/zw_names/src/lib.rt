@@ -1,0 +1,6 @@
+//! Sets of names, which number their names from 0 in the order in which they came.
+#![tactic(auto)]
+
+mod sets;
+
+pub use sets::{holds, insert, number_in, number_of};

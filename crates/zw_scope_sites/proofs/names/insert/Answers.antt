@@ -1,7 +1,0 @@
-use Rattle.zw_scope_sites.proofs.SetLemmas.{MatchBool-insert}
-use Rattle.zw_scope_sites.proofs.names.insert.Goals as goal
-
-pub returns : goal.returns
-returns c =
-    MatchBool-insert c.args.set.now.keys c.insert_full.new.self.keys c.in_ok-from_slice.field-0 c.args.name.now c.in_ok-is_new.is_new
-    c.in_ok-from_slice.ensures.items c.in_ok-is_new.ensures.added c.in_ok-is_new.ensures.keys
