@@ -1,5 +1,5 @@
 // Coercions, by the rows of their table.
-ghost use Rattle.std.specs.Prelude.{◌≡◌, ◌<◌, ℕ, length, List, Option, IsTrue};
+ghost use Rattle.std.specs.Prelude.{◌≡◌, ◌<◌, length, List, Option};
 ghost use Rattle.std.specs.Option.{option_map, option_copied};
 ghost use Rattle.zw_num.specs.Arithmetic.{IsType};
 ghost use Rattle.zw_types.specs.TypeTrees.{TypeTree};

@@ -1,5 +1,5 @@
 // The command that reads and validates a module's file.
-ghost use Rattle.std.specs.Prelude.{◌≡◌, ◌≤◌, [], length};
+ghost use Rattle.std.specs.Prelude.{◌≤◌, [], length};
 ghost use Rattle.zw_base.specs.Faults.{Counts};
 ghost use Rattle.zw_drive.specs.Due.{IsBlamed};
 ghost use Rattle.zw_drive.specs.Ends.{code_of};

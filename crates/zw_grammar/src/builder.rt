@@ -80,7 +80,7 @@ fn last_trees(list: &[Built], least: usize, many: u8, next: u32) -> (u32, usize)
 }
 
 impl Builder {
-    ghost use Rattle.std.specs.Prelude.{◌≡◌, ℕ, ◌≤◌, ◌+◌, ◌-◌, ◌<◌, ◌^◌, ◌++◌, List, [], length, OnOk};
+    ghost use Rattle.std.specs.Prelude.{◌≡◌, ◌+◌, ◌-◌, ◌<◌, ◌++◌, List, [], length, OnOk};
     ghost use Rattle.zw_tree.specs.Trees.{none, trees};
     ghost use Rattle.zw_grammar.specs.Building.{Building, nothing, begin, ends, one, enter, wrapped, marked, enclosed};
     ghost use Rattle.zw_grammar.specs.Nodes.{Holds, all_nodes};

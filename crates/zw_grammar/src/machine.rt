@@ -1,5 +1,5 @@
 // The machine that reads by a grammar, with a stack of its own.
-ghost use Rattle.std.specs.Prelude.{◌≡◌, ℕ, ◌<◌, ◌^◌, ◌++◌, length, reverse, OnOk, IfOk, IsTrue};
+ghost use Rattle.std.specs.Prelude.{◌≡◌, ◌<◌, ◌^◌, ◌++◌, length, reverse, OnOk, IfOk, IsTrue};
 ghost use Rattle.zw_grammar.specs.Building.{Building, nothing};
 ghost use Rattle.zw_grammar.specs.Grammars.{all_end};
 ghost use Rattle.zw_grammar.specs.Nodes.{Holds};

@@ -1,6 +1,6 @@
 // The files and streams of the system, as the compiler sees them. These adapters are the trusted edge: they tell nothing
 // of what a stream holds, and count each error of the system that they answer as a failure.
-ghost use Rattle.std.specs.Prelude.{◌≡◌, ◌≤◌, [], length, vec_len, IfOk};
+ghost use Rattle.std.specs.Prelude.{◌≡◌, ◌≤◌, [], vec_len, IfOk};
 
 use sqlite_items::Items;
 use std::alloc::Global;

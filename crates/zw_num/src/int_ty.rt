@@ -1,6 +1,6 @@
 // Integer types and their values.
-ghost use Rattle.std.specs.Prelude.{◌≡◌, ◌↔◌, ◌<◌, ◌^◌, IsTrue};
-ghost use Rattle.zw_num.specs.Arithmetic.{IsType, IsSized, IsIn, least, greatest, width, is_in, exact, wrapped, saturated, pattern};
+ghost use Rattle.std.specs.Prelude.{◌≡◌, ◌<◌, ◌^◌};
+ghost use Rattle.zw_num.specs.Arithmetic.{IsType, IsSized, least, greatest, width, is_in, exact, wrapped, saturated, pattern};
 
 use crate::NumFault;
 

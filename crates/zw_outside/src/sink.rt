@@ -1,5 +1,5 @@
 // Sinks that keep what they take.
-ghost use Rattle.std.specs.Prelude.{◌≡◌, [], ℕ, ◌+◌, ◌-◌, ◌≤◌, ◌<◌, ◌++◌, ◌↔◌, Some, length, take, min, IfOk, OnOk, OnErr, IsErrOf, MatchResult};
+ghost use Rattle.std.specs.Prelude.{◌≡◌, [], ◌+◌, ◌-◌, ◌≤◌, ◌<◌, ◌++◌, Some, length, take, min, IfOk, OnOk, OnErr, MatchResult};
 ghost use Rattle.std.specs.Io.KnownBytes.{WriteAppends};
 ghost use Rattle.zw_base.specs.Faults.{Counts};
 ghost use Rattle.zw_base.specs.Outside.{put_failed};
@@ -118,7 +118,7 @@ impl MemSink {
 }
 
 impl Sink for MemSink {
-    ghost use Rattle.zw_outside.specs.Memory.{taken_of, cap_of, room, sink_failures, spare, is_due, after_call, after_fault, PutsInMemory};
+    ghost use Rattle.zw_outside.specs.Memory.{taken_of, cap_of, room, sink_failures, spare, after_call, PutsInMemory};
 
     ghost taken = { λ s. Some (taken_of s) };
 

@@ -1,5 +1,5 @@
 // Sources that give a list of bytes.
-ghost use Rattle.std.specs.Prelude.{◌≡◌, ℕ, ◌≤◌, ◌<◌, ◌++◌, Some, length, vec_len, take, drop, min, IfOk, OnOk, MatchResult};
+ghost use Rattle.std.specs.Prelude.{◌≡◌, ◌≤◌, ◌<◌, ◌++◌, Some, length, vec_len, take, drop, min, IfOk};
 ghost use Rattle.std.specs.Io.KnownBytes.{ReadConsumes};
 ghost use Rattle.zw_base.specs.Faults.{Counts};
 ghost use Rattle.zw_base.specs.Outside.{read_failed};

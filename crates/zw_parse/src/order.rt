@@ -1,5 +1,5 @@
 // Nodes in preorder, from their list in the order in which they end.
-ghost use Rattle.std.specs.Prelude.{◌≡◌, ℕ, ◌+◌, ◌-◌, ◌<◌, ◌≤◌, ◌^◌, ◌++◌, suc, List, length, reverse, IfOk, OnOk, Some, None};
+ghost use Rattle.std.specs.Prelude.{◌≡◌, ◌+◌, ◌-◌, ◌<◌, ◌^◌, ◌++◌, suc, List, length, reverse, IfOk, OnOk, Some, None};
 ghost use Rattle.zw_tree.specs.Trees.{Forest, trees, count};
 ghost use Rattle.zw_grammar.specs.Building.{Span};
 ghost use Rattle.zw_grammar.specs.Nodes.{nodes};

@@ -1,5 +1,5 @@
 // What the tokens of a node stand for: a name, a text or a number.
-ghost use Rattle.std.specs.Prelude.{◌≡◌, ◌≤◌, ◌<◌, ◌^◌, IfOk, OnOk, ◌++◌, List, All, length, take, drop, pos};
+ghost use Rattle.std.specs.Prelude.{◌≡◌, ◌<◌, IfOk, OnOk, ◌++◌, All, length};
 ghost use Rattle.zw_token.specs.Tokens.{LiesIn, IsOfKind, bytes_of};
 ghost use Rattle.zw_token.specs.declared.token.Token.{Token};
 ghost use Rattle.zw_token.specs.declared.token.TokenKind.{TokenKind};

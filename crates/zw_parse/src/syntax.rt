@@ -1,5 +1,5 @@
 // The tree of a text, or its stop by the grammar.
-ghost use Rattle.std.specs.Prelude.{◌≡◌, ℕ, ◌≤◌, List, All, drop, length, IfOk, IfErr};
+ghost use Rattle.std.specs.Prelude.{◌≡◌, ◌≤◌, All, drop, length, IfOk, IfErr};
 ghost use Rattle.zw_token.specs.Tokens.{Tokens, LiesIn};
 ghost use Rattle.zw_parse_expr.specs.Files.{FileEnds};
 ghost use Rattle.zw_parse_expr.specs.Lexemes.{lexemes};

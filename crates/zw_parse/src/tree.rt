@@ -1,7 +1,6 @@
 // The tree of a text, node by node in preorder.
-ghost use Rattle.std.specs.Prelude.{◌≡◌, ℕ, ◌≤◌, ◌<◌, ◌^◌, List, All, length, IfOk};
+ghost use Rattle.std.specs.Prelude.{◌≡◌, ℕ, ◌≤◌, ◌<◌, ◌^◌, All, length, IfOk};
 ghost use Rattle.zw_tree.specs.Trees.{Forest, map_forest};
-ghost use Rattle.zw_tree.specs.declared.ast.Entry.{Entry};
 ghost use Rattle.zw_grammar.specs.Building.{Span};
 ghost use Rattle.zw_grammar.specs.declared.builder.Built.{Built};
 ghost use Rattle.zw_token.specs.Tokens.{LiesIn, DoNotOverlap};

@@ -1,5 +1,5 @@
 // Reading one rule of the grammar.
-ghost use Rattle.std.specs.Prelude.{◌≡◌, ◌<◌, ◌^◌, [], ◌∷◌, length, IfOk};
+ghost use Rattle.std.specs.Prelude.{◌<◌, ◌^◌, [], ◌∷◌, length, IfOk};
 ghost use Rattle.zw_grammar.specs.declared.grammar.Symbol.TheVariants.{Read};
 ghost use Rattle.zw_grammar.specs.Building.{nothing};
 ghost use Rattle.zw_grammar.specs.Completions.{CanComplete};

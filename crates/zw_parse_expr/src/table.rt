@@ -1,5 +1,5 @@
 // The grammar of Zig files (Zig Language Reference 0.13.0, Grammar) as data: the alternatives of each rule, by its number.
-ghost use Rattle.std.specs.Prelude.{◌≡◌, ◌++◌, OnOk, IfOk};
+ghost use Rattle.std.specs.Prelude.{◌≡◌, OnOk, IfOk};
 ghost use Rattle.zw_grammar.specs.Plain.{plain};
 ghost use Rattle.zw_parse_expr.specs.Rules.{rules, with_types, with_expressions, with_statements};
 

@@ -1,5 +1,5 @@
 // The terminals of a list of tokens.
-ghost use Rattle.std.specs.Prelude.{◌≡◌, ◌≤◌, ◌∷◌, All, IfOk, slice_range};
+ghost use Rattle.std.specs.Prelude.{◌≡◌, All, IfOk};
 ghost use Rattle.zw_token.specs.Tokens.{LiesIn};
 ghost use Rattle.zw_parse_expr.specs.Lexemes.{lexeme_of, lexemes, own_terminal, terminal_before, terminals_of};
 ghost use Rattle.zw_parse_expr.specs.Terminals.{name_terminal, builtin_terminal, sign_terminal, colon_before};

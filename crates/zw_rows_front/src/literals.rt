@@ -1,5 +1,5 @@
 // Rows of what tokens stand for: `numbers`, `chars` and `texts`.
-ghost use Rattle.std.specs.Prelude.{◌≡◌, ◌≤◌, length, IfOk, IfSome};
+ghost use Rattle.std.specs.Prelude.{IfOk, IfSome};
 ghost use Rattle.zw_token.specs.Tokens.{IsOfKind, Tokens};
 
 use std::alloc::Global;

@@ -1,5 +1,5 @@
 // Rows of the bytes of modules: what reading them gives, and what is written of the module that they spell.
-ghost use Rattle.std.specs.Prelude.{◌≡◌, ◌<◌, ◌^◌, length};
+ghost use Rattle.std.specs.Prelude.{◌<◌, ◌^◌, length};
 
 use std::alloc::Global;
 use zw_base::Oom;

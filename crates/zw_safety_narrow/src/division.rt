@@ -1,8 +1,8 @@
 // The code of quotients and rests.
 ghost use Rattle.std.specs.Prelude.{◌≡◌, ◌≤◌, ◌++◌, ◌&&◌, OnOk};
-ghost use Rattle.zw_safety_narrow.specs.CastCode.{holds, tested};
+ghost use Rattle.zw_safety_narrow.specs.CastCode.{holds};
 ghost use Rattle.zw_safety_narrow.specs.CompareCode.{is_unsigned};
-ghost use Rattle.zw_safety_narrow.specs.DivisionCode.{is_zero, divisor_tested, are_unsigned, quotient_code, rest_code};
+ghost use Rattle.zw_safety_narrow.specs.DivisionCode.{divisor_tested, are_unsigned, quotient_code, rest_code};
 ghost use Rattle.zw_safety_narrow.specs.FloorCode.{floored_rest, modulo_code, both_kept, whole_quotient, floor_long, floor_code};
 ghost use Rattle.zw_safety_narrow.specs.Operators.{IsNarrow};
 

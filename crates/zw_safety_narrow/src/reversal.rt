@@ -1,5 +1,5 @@
 // The code of `@byteSwap` and `@bitReverse`: digits change places with their neighbours.
-ghost use Rattle.std.specs.Prelude.{◌≡◌, ◌≤◌, ◌++◌, pos, OnOk};
+ghost use Rattle.std.specs.Prelude.{◌≡◌, ◌++◌, pos, OnOk};
 ghost use Rattle.zw_num.specs.declared.int_ty.IntTy.TheVariants.{Sized};
 ghost use Rattle.zw_safety_narrow.specs.Operators.{IsNarrow};
 ghost use Rattle.zw_safety_narrow.specs.ReversalCode.{every_other, neighbours_swapped, bytes_turned, bits_turned, lowered, byte_swap_code, bit_reverse_code};

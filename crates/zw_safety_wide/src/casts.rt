@@ -3,7 +3,6 @@ ghost use Rattle.std.specs.Prelude.{◌≡◌, ◌≤◌, ◌-◌, ◌/◌, ◌^
 ghost use Rattle.zw_num.specs.declared.int_ty.IntTy.TheVariants.{Sized};
 ghost use Rattle.zw_safety_narrow.specs.Operators.{IsStored};
 ghost use Rattle.zw_safety_wide.specs.WideCastCode.{long_tested, long_above, long_outside, long_negative, long_cast, wide_cast_code, long_distance, wide_distance_code, own_long, wide_ones_code, less_zeros, wide_leading_code, long_at_most, wide_trailing_code};
-ghost use Rattle.zw_safety_words.specs.WideCode.{widened, settled};
 
 use std::alloc::AllocError;
 use zw_num::IntTy;

@@ -1,7 +1,7 @@
 // The code of exact shifts, and of the shift that stops at the bounds of its type, where a type has more than 32 bits.
 ghost use Rattle.std.specs.Prelude.{◌≡◌, ◌+◌, ◌≤◌, ◌∷◌, [], ◌++◌, OnOk};
 ghost use Rattle.zw_safety_narrow.specs.Operators.{IsStored};
-ghost use Rattle.zw_safety_wide.specs.WideShiftCode.{amount_tested, long_fitted, moved_left, unlike, lost_tested, low_settled, wide_left_exact_code, wide_right_exact_code, far_besides, wide_left_sat_code};
+ghost use Rattle.zw_safety_wide.specs.WideShiftCode.{amount_tested, moved_left, unlike, lost_tested, low_settled, wide_left_exact_code, wide_right_exact_code, far_besides, wide_left_sat_code};
 ghost use Rattle.zw_safety_words.specs.WideCode.{settled};
 ghost use Rattle.zw_wasm.specs.declared.module.Instr.TheVariants.{LocalGet, LocalSet, Select};
 

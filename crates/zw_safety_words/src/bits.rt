@@ -2,7 +2,6 @@
 ghost use Rattle.std.specs.Prelude.{◌≡◌, ◌≤◌, ◌++◌, OnOk};
 ghost use Rattle.zw_num.specs.Arithmetic.{width};
 ghost use Rattle.zw_safety_words.specs.WideBitCode.{wide_word_code, both_got, are_wide_amounts, far_tested, wide_amount, wide_left_code, wide_right_code, wide_minus_one, wide_same_code, wide_truncated_code, zero_spread, wide_opposite_code, zero_tested};
-ghost use Rattle.zw_safety_words.specs.WideCode.{widened, settled, both_widened, spread, wide_fitted, difference_test, tested};
 
 use crate::wide::{
     push_both_widened, push_difference_test, push_settled, push_spread, push_tested,

@@ -1,7 +1,5 @@
 // The code of comparisons, and of the lesser and the greater of two numbers, where a type has more than 32 bits.
 ghost use Rattle.std.specs.Prelude.{◌≡◌, ◌≤◌, ◌++◌, OnOk};
-ghost use Rattle.zw_safety_words.specs.WideBitCode.{both_got};
-ghost use Rattle.zw_safety_words.specs.WideCode.{spread, both_widened, settled};
 ghost use Rattle.zw_safety_words.specs.WideOrderCode.{fits_signed_long, both_fit, both_unsigned, signed_local, below_zero, mixed_code, relation_code, compared_code, wide_comparison_code, wide_choice_code};
 
 use crate::bits::push_both_got;

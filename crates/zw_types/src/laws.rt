@@ -1,5 +1,5 @@
 // What holds of tables and readings: each law is the contract of a function that does nothing.
-ghost use Rattle.std.specs.Prelude.{◌≡◌, ℕ, ◌<◌, length, All};
+ghost use Rattle.std.specs.Prelude.{◌≡◌, ◌<◌, length, All};
 ghost use Rattle.zw_types.specs.declared.value.Value.{Value};
 ghost use Rattle.zw_types.specs.declared.type_form.TypeForm.{TypeForm};
 ghost use Rattle.zw_types.specs.Readings.{type_at, value_tree, form_tree, types_in, types_in_form};

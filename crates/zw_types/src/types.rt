@@ -1,5 +1,5 @@
 // The table of types. It is a plain list that is searched; no contract tells.
-ghost use Rattle.std.specs.Prelude.{◌≡◌, ◌↔◌, ◌<◌, ◌≤◌, ℕ, length, slice_get, All, Contains, IsTrue, IsOk, IfOk, OnOk, OnErr, MatchOption, MatchBool, Some, None, List};
+ghost use Rattle.std.specs.Prelude.{◌≡◌, ◌↔◌, ◌<◌, ◌≤◌, length, slice_get, All, Contains, IsTrue, IsOk, IfOk, OnErr, MatchOption, MatchBool, Some, None, List};
 ghost use Rattle.zw_types.specs.TypeTrees as tree;
 ghost use Rattle.zw_types.specs.TypeTrees.{TypeTree};
 ghost use Rattle.zw_types.specs.Readings.{form_tree};
@@ -36,7 +36,7 @@ impl Model for Types {
 
     ghost coded = { coded_table };
 
-    ghost use Rattle.std.specs.Prelude.{ℕ, ◌<◌, ◌^◌, length};
+    ghost use Rattle.std.specs.Prelude.{◌<◌, ◌^◌, length};
     ghost use Rattle.zw_types.specs.Entries.{table_of, AreEntries};
 
     ghost view = { λ types. table_of types.entries.items types.errors.items };

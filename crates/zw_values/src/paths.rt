@@ -2,7 +2,7 @@
 ghost use Rattle.std.specs.Prelude.{◌≡◌, ◌<◌, length, slice_set, List, Some, None, IfOk, OnErr, MatchBool, IsSome};
 ghost use Rattle.std.specs.Option.{option_map, option_copied};
 ghost use Rattle.zw_types.specs.TypeTrees.{TypeTree};
-ghost use Rattle.zw_types.specs.Readings.{value_tree, values_tree};
+ghost use Rattle.zw_types.specs.Readings.{value_tree};
 ghost use Rattle.zw_values.specs.Paths.{part_of, with_part, value_at, written_at};
 
 use sqlite_items::{Boxed, Items};

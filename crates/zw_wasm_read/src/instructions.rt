@@ -1,5 +1,5 @@
 // Instructions (5.4).
-ghost use Rattle.std.specs.Prelude.{◌≡◌, ◌≤◌};
+ghost use Rattle.std.specs.Prelude.{◌≤◌};
 ghost use Rattle.zw_wasm.specs.ModuleBytes.{IsInstruction};
 ghost use Rattle.zw_wasm_read.specs.MemoryArguments.{IsMemoryArgument};
 ghost use Rattle.zw_wasm_read.specs.Operands.{HasIndex, HasNoOperands, IsBehind};

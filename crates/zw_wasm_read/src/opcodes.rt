@@ -1,9 +1,9 @@
 // Instructions by their opcodes (5.4).
-ghost use Rattle.std.specs.Prelude.{◌≡◌, ◌+◌, ◌≤◌, MatchOption};
+ghost use Rattle.std.specs.Prelude.{◌≡◌, ◌≤◌, MatchOption};
 ghost use Rattle.zw_wasm.specs.declared.module.Instr.{Instr};
 ghost use Rattle.zw_wasm.specs.declared.module.LoadKind.{LoadKind};
 ghost use Rattle.zw_wasm.specs.declared.module.StoreKind.{StoreKind};
-ghost use Rattle.zw_wasm.specs.Opcodes.{binary_opcode, comparison_opcode, conversion_opcode, load_opcode, store_opcode, unary_opcode};
+ghost use Rattle.zw_wasm.specs.Opcodes.{binary_opcode, comparison_opcode, load_opcode, store_opcode, unary_opcode};
 ghost use Rattle.zw_wasm_read.specs.Operands.{IsAlone};
 
 use zw_wasm::{

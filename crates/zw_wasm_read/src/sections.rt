@@ -1,5 +1,5 @@
 // Sections (5.5.2), and custom sections between them.
-ghost use Rattle.std.specs.Prelude.{◌≡◌, ℕ, List, ◌+◌, ◌<◌, ◌≤◌, ◌^◌, length};
+ghost use Rattle.std.specs.Prelude.{◌≡◌, ℕ, ◌+◌, ◌<◌, ◌≤◌, ◌^◌, length};
 ghost use Rattle.zw_wasm_read.specs.Sections.{BeginsWith, IsFirst, IsInOrder, PassesCustom, PassesCustoms, ReadsEntries, ReadsOptional, ReadsOptionalStart, ReadsSection, ReadsStart};
 ghost use Rattle.zw_wasm_read.specs.declared.stop.ReadErr.TheVariants as stop_err;
 

@@ -1,6 +1,6 @@
 // Vectors (5.1.3).
-ghost use Rattle.std.specs.Prelude.{ℕ, List, length};
-ghost use Rattle.zw_wasm.specs.ModuleBytes.{AreLimits, IsCode, IsDataSegment, IsElement, IsExport, IsFunctionImport, IsFunctionType, IsGlobal, IsLocalRun, IsTableType, IsU32, IsValueType, IsVector};
+ghost use Rattle.std.specs.Prelude.{ℕ, List};
+ghost use Rattle.zw_wasm.specs.ModuleBytes.{AreLimits, IsCode, IsDataSegment, IsElement, IsExport, IsFunctionImport, IsFunctionType, IsGlobal, IsLocalRun, IsU32, IsValueType, IsVector};
 ghost use Rattle.zw_wasm_read.specs.Reads.{Reads};
 ghost use Rattle.zw_wasm_read.specs.Uniqueness.{Sure};
 

@@ -1,7 +1,6 @@
 // Instructions on globals (4.4.3).
-ghost use Rattle.std.specs.Prelude.{◌≡◌, IfOk, slice_get, vec_capacity, IfErr, ◌≤◌};
+ghost use Rattle.std.specs.Prelude.{IfOk, slice_get, vec_capacity, IfErr, ◌≤◌};
 ghost use Rattle.zw_wasm.specs.Reduction.{with_operand};
-ghost use Rattle.zw_wasm.specs.Structure.{bits_of};
 ghost use Rattle.zw_wasm_words.specs.Operands.{ReadsGlobals, SetsGlobal};
 ghost use Rattle.zw_wasm_words.specs.FullLists.{IsFullList};
 

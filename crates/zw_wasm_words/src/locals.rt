@@ -1,5 +1,5 @@
 // Instructions on locals (4.4.3).
-ghost use Rattle.std.specs.Prelude.{◌≡◌, IfOk, slice_get, vec_capacity, IfErr, ◌≤◌};
+ghost use Rattle.std.specs.Prelude.{IfOk, slice_get, vec_capacity, IfErr, ◌≤◌};
 ghost use Rattle.zw_wasm.specs.Reduction.{on_operand, with_local, with_local_too, with_operand};
 ghost use Rattle.zw_wasm_words.specs.Frames.{ActsInFrame, LocalsFit};
 ghost use Rattle.zw_wasm_words.specs.FullLists.{IsFullList};

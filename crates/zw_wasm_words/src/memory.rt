@@ -1,5 +1,5 @@
 // Reading and writing a memory (4.4.4).
-ghost use Rattle.std.specs.Prelude.{◌≡◌, IfSome, ◌+◌, ◌≤◌, ◌<◌, ◌^◌, length};
+ghost use Rattle.std.specs.Prelude.{◌≡◌, IfSome, ◌+◌, ◌<◌, ◌^◌};
 ghost use Rattle.std.specs.Int.{byte_len, from_le_bytes, w8, w16, w32, w64};
 ghost use Rattle.std.specs.Option.{option_map};
 ghost use Rattle.zw_wasm.specs.Accesses.{bits_loaded, bytes_stored, load_type, load_width, store_type};

@@ -1,7 +1,7 @@
 // Instructions on the operands alone (4.4.1, 4.4.2, 4.4.4). The last word holds the last operand.
-ghost use Rattle.std.specs.Prelude.{◌≡◌, ℕ, ◌+◌, ◌-◌, ◌<◌, ◌≤◌, ◌^◌, List, [], ◌∷◌, ◌++◌, length, take, MatchOption, IfOk, vec_capacity, IfErr};
+ghost use Rattle.std.specs.Prelude.{◌≡◌, ◌+◌, ◌-◌, ◌<◌, ◌≤◌, ◌^◌, [], ◌∷◌, ◌++◌, length, take, MatchOption, IfOk, vec_capacity, IfErr};
 ghost use Rattle.zw_wasm.specs.declared.module.Instr.TheVariants as instr;
-ghost use Rattle.zw_wasm.specs.Reduction.{act, Config, Goes, compared, computed, converted, dropped, on_one, on_operand, on_two, operated, pushed, selected, tested};
+ghost use Rattle.zw_wasm.specs.Reduction.{Goes, compared, computed, converted, dropped, on_one, on_operand, on_two, operated, pushed, selected, tested};
 ghost use Rattle.zw_wasm.specs.Typing.{converts_from};
 ghost use Rattle.zw_wasm.specs.Numerics.{bit_width};
 ghost use Rattle.zw_wasm.specs.Structure.{number, width_of};

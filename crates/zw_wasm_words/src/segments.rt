@@ -1,5 +1,5 @@
 // The segments of tables and memories (4.5.4).
-ghost use Rattle.std.specs.Prelude.{◌≡◌, ◌<◌, ◌^◌, List, length, map, OnOk, IfErr, MatchResult, IsTrue, IfOk, IfNone, Some};
+ghost use Rattle.std.specs.Prelude.{◌≡◌, ◌<◌, length, map, IfOk, IfNone, Some};
 ghost use Rattle.zw_wasm.specs.declared.module.DataSegment.{DataSegment};
 ghost use Rattle.zw_wasm.specs.declared.module.Element.{Element};
 ghost use Rattle.zw_wasm.specs.ModuleMachine.{constant_of, with_elements, with_segments};
