@@ -1,7 +1,8 @@
 -- Which answers of the outside are failures, and which pair a load adds to what a tree has handed over.
-use Rattle.std.specs.Prelude.{◌≡◌, ℕ, Bool, true, false, ◌&&◌, nat_eq, nat_lt, List, [], ◌∷◌, ◌++◌, length, take, Option, Result, Ok, Err, Vec}
+use Rattle.std.specs.Prelude.{◌≡◌, ℕ, ◌≤◌, Bool, true, false, ◌&&◌, nat_eq, nat_lt, List, [], ◌∷◌, ◌++◌, length, take, Option, Result, Ok, Err, Vec}
 use Rattle.std.specs.Io.KnownBytes.{Appends}
 use Rattle.std.specs.declared.alloc.Global.{Global}
+use Rattle.zw_base.specs.declared.files.Answer.{Answer}
 use Rattle.zw_base.specs.declared.files.Answer.TheVariants.{Bytes, Absent, TooLong}
 use Rattle.zw_base.specs.declared.files.Handed.{Handed}
 use Rattle.zw_base.specs.declared.outside.Failed.{Failed}
@@ -27,13 +28,20 @@ put_failed piece (Ok n) = nat_eq n 0 && nat_lt 0 (length piece)
 put_failed piece (Err put.Failed) = true
 put_failed piece (Err put.Oom) = false
 
--- an answer joins the list as the pair of its path and itself; a failure and want of memory are no answers
-abbrev pub AddsPair : List Handed → List Handed → List ℕ → Result (Vec ℕ Global) LoadErr → Type 0
-AddsPair old new path (Ok bytes) = new ≡ old ++ record { path = path; answer = Bytes bytes.items } ∷ []
-AddsPair old new path (Err load.Absent) = new ≡ old ++ record { path = path; answer = Absent } ∷ []
-AddsPair old new path (Err load.TooLong) = new ≡ old ++ record { path = path; answer = TooLong } ∷ []
-AddsPair old new path (Err load.Failed) = new ≡ old
-AddsPair old new path (Err load.Oom) = new ≡ old
+-- An answer joins the list as the pair of its path and itself, with the limit of the load where the file is too long. A failure and want
+-- of memory are no answers.
+abbrev pub AddsPair : List Handed → List Handed → List ℕ → ℕ → Result (Vec ℕ Global) LoadErr → Type 0
+AddsPair old new path limit (Ok bytes) = new ≡ old ++ record { path = path; answer = Bytes bytes.items } ∷ []
+AddsPair old new path limit (Err load.Absent) = new ≡ old ++ record { path = path; answer = Absent } ∷ []
+AddsPair old new path limit (Err load.TooLong) = new ≡ old ++ record { path = path; answer = TooLong limit } ∷ []
+AddsPair old new path limit (Err load.Failed) = new ≡ old
+AddsPair old new path limit (Err load.Oom) = new ≡ old
+
+-- the answer to a load with this limit
+abbrev pub IsAnswerAt : ℕ → Answer → Type 0
+IsAnswerAt limit (Bytes bytes) = length bytes ≤ limit
+IsAnswerAt limit Absent = Unit {0}
+IsAnswerAt limit (TooLong told) = told ≡ limit
 
 -- whether a whole text failed to go to a sink
 abbrev pub failed : {T : Type 0} → Result T PutErr → Bool

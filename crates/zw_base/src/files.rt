@@ -12,8 +12,8 @@ pub enum Answer {
     Bytes(Items<u8>),
     /// There is no such file.
     Absent,
-    /// The file has more bytes than the load was to give.
-    TooLong,
+    /// The file has more bytes than this, the limit that the load was to keep.
+    TooLong(u64),
 }
 
 /// A pair of a path and its answer.

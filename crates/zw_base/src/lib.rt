@@ -1,5 +1,5 @@
-//! What the compiler sees of the world: words, places, stops, and the tree of files, the input and the outputs as
-//! traits. The crate knows nothing of Zig or WebAssembly.
+//! Words, places and stops; numbers in words; the outside as traits (a tree of files, an input, outputs) with their counts of
+//! faults, and a whole text put to an output. It must not know: Zig, WebAssembly, real files.
 #![tactic(auto)]
 
 mod files;

@@ -70,7 +70,7 @@ pub trait Tree {
     /// The bytes of the file at this path, where it has at most `limit` of them. The path is any bytes.
     fn load(&mut self, alloc: Global, path: &Word, limit: u64) -> Result<Vec<u8>, LoadErr>
         ensures within { IfOk result (λ bytes. vec_len bytes ≤ limit) }
-        ensures pair { AddsPair (loaded self.old) (loaded self.new) path.now result }
+        ensures pair { AddsPair (loaded self.old) (loaded self.new) path.now limit result }
         ensures cause { Counts (faults self.old) (faults self.new) (load_failed result) };
 }
 

@@ -82,7 +82,7 @@ some_reading number text tokens listed = by (syntax.tree_or_stop number text tok
 
 one_read : (number : ℕ) (place : Place) (before : ℕ) (answer : Answer) (r s : Result (Forest Entry) Stop) → ReadsAnswer number place before answer r → ReadsAnswer number place before answer s → r ≡ s
 one_read number place before Absent r s g h = g ∙ sym h
-one_read number place before TooLong r s g h = g ∙ sym h
+one_read number place before (TooLong limit) r s g h = g.1 ∙ sym h.1
 one_read number place before (Bytes text) r s g h = by (nat_lt TREE_LIMIT (before + length text)) g.1 h.1
   where
     by : (b : Bool) → MatchBool b (r ≡ Err (stop TREE_LENGTH place)) (Reads number text r) → MatchBool b (s ≡ Err (stop TREE_LENGTH place)) (Reads number text s) → r ≡ s

@@ -21,7 +21,7 @@ short-behind (x ∷ xs) text h k = h
 
 short-answer : (number : ℕ) (place : Place) (before : ℕ) (answer : Answer) (read : Result (Forest Entry) Stop) → ReadsAnswer number place before answer read → IsShort (text_of answer)
 short-answer number place before Absent read h = lit≤ tt
-short-answer number place before TooLong read h = lit≤ tt
+short-answer number place before (TooLong limit) read h = lit≤ tt
 short-answer number place before (Bytes text) read h = h.0
 
 module _ (root : List ℕ) where

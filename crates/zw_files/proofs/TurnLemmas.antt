@@ -1,6 +1,7 @@
 -- The turn of a file.
 use Rattle.std.proofs.Common.{◌≡◌, inl, inr, append_assoc, append-nil, length-append, zero, suc, ℕ, ◌+◌, ◌<◌, ◌≤◌, true, false, List, [], ◌∷◌, ◌++◌, length, sum, slice_get, nat_lt, Some, Ok, Err, MatchBool, refl, sym, ap, ◌∙◌, subst, arith}
 use Rattle.std.specs.Prelude.{Result}
+use Rattle.zw_base.specs.Outside.{IsAnswerAt}
 use Rattle.zw_base.specs.declared.files.Handed.{Handed}
 use Rattle.zw_base.specs.declared.stop.Place.{Place}
 use Rattle.zw_base.specs.declared.stop.Refused.{Refused}
@@ -78,15 +79,15 @@ module _ (root : List ℕ) (found : Found) (path : List ℕ) (place : Place) (te
 pub takes-absent : (root : List ℕ) (found : Found) (path : List ℕ) (place : Place) → Takes root found path place Absent (Err (located found.paths.names (stop FILE_ABSENT place)))
 takes-absent root found path place = record { read = Err (stop FILE_ABSENT place); reads = refl; ends = refl }
 
-pub takes-too_long : (root : List ℕ) (found : Found) (path : List ℕ) (place : Place) → Takes root found path place TooLong (Err (located found.paths.names (stop FILE_LENGTH place)))
-takes-too_long root found path place = record { read = Err (stop FILE_LENGTH place); reads = refl; ends = refl }
+pub takes-too_long : (root : List ℕ) (found : Found) (path : List ℕ) (place : Place) → Takes root found path place (TooLong FILE_LIMIT) (Err (located found.paths.names (stop FILE_LENGTH place)))
+takes-too_long root found path place = record { read = Err (stop FILE_LENGTH place); reads = (refl, refl); ends = refl }
 
 -- the stop of a file that was loaded with this answer
 pub stops-file : (root : List ℕ) (found : Found) (path : List ℕ) (place : Place) (before after : List Handed) (answer : Answer) (e : GatherErr) → Adds before after path answer
-    → TurnStops root found path place answer e → FileStops root found path place before after e
-stops-file root found path place before after answer (gather.Stop stop word) adds stops = (answer, adds, stops)
-stops-file root found path place before after answer gather.Failed adds stops = absurd stops
-stops-file root found path place before after answer gather.Oom adds stops = inr (answer, adds)
+    → IsAnswerAt FILE_LIMIT answer → TurnStops root found path place answer e → FileStops root found path place before after e
+stops-file root found path place before after answer (gather.Stop stop word) adds at stops = (answer, adds, stops)
+stops-file root found path place before after answer gather.Failed adds at stops = absurd stops
+stops-file root found path place before after answer gather.Oom adds at stops = inr (answer, adds, at)
 
 -- ---- the turns of files
 
@@ -118,12 +119,12 @@ module _ (root : List ℕ) (from found : Found) (first before after : List Hande
   stops-next path place gather.Failed there left same =
       record { found = found; passes = record { files = passes.files; loads = same ∙ passes.loads; leads = passes.leads }; one_left = left }
   stops-next path place gather.Oom there left (inl same) = record { files = passes.files; loads = same ∙ passes.loads; begins = past passes.leads }
-  stops-next path place gather.Oom there left (inr (answer, adds)) =
+  stops-next path place gather.Oom there left (inr (answer, adds, at)) =
       let handed : Handed = record { path = path; answer = answer } in
       record {
         files = passes.files ++ handed ∷ [];
         loads = adds ∙ ap (λ l. l ++ handed ∷ []) passes.loads ∙ append_assoc first passes.files (handed ∷ []);
-        begins = within handed place passes.leads there;
+        begins = within handed place passes.leads there at;
       }
 
 pub next-left : (found : Found) (path : List ℕ) (place : Place) → IsNext found path place → length found.trees < length found.paths.names

@@ -106,16 +106,16 @@ Reads number text (Err stop) = IsStopOfText number text stop
 
 -- ---- the turn of a file
 
--- how the answer to the load of a file reads: error 1 and limits 1 and 14 stand at the place that first named the file
+-- how the answer to the load of a file, with the limit of files, reads: error 1 and limits 1 and 14 stand at the place that first named the file
 abbrev pub ReadsAnswer : ℕ → Place → ℕ → Answer → Result (Forest Entry) Stop → Type 0
 ReadsAnswer number place before Absent read = read ≡ Err (stop FILE_ABSENT place)
-ReadsAnswer number place before TooLong read = read ≡ Err (stop FILE_LENGTH place)
+ReadsAnswer number place before (TooLong limit) read = (limit ≡ FILE_LIMIT) × (read ≡ Err (stop FILE_LENGTH place))
 ReadsAnswer number place before (Bytes text) read =
     (length text ≤ FILE_LIMIT) × MatchBool (nat_lt TREE_LIMIT (before + length text)) (read ≡ Err (stop TREE_LENGTH place)) (Reads number text read)
 
 abbrev pub text_of : Answer → List ℕ
 text_of Absent = []
-text_of TooLong = []
+text_of (TooLong limit) = []
 text_of (Bytes text) = text
 
 -- a stop, with the path of the file in which it stands

@@ -2,6 +2,7 @@
 use Rattle.std.specs.Prelude.{◌≡◌, ◌⊎◌, ℕ, ◌<◌, ◌≤◌, Bool, true, false, List, [], ◌∷◌, ◌++◌, length, map, sum, Vec, Result, Ok, Err}
 use Rattle.indexmap.specs.IndexMap.{IndexMap}
 use Rattle.std.specs.declared.alloc.Global.{Global}
+use Rattle.zw_base.specs.Outside.{IsAnswerAt}
 use Rattle.zw_base.specs.declared.files.Answer.{Answer}
 use Rattle.zw_base.specs.declared.files.Handed.{Handed}
 use Rattle.zw_base.specs.declared.stop.Place.{Place}
@@ -13,7 +14,7 @@ use Rattle.zw_files.specs.declared.err.GatherErr.{GatherErr}
 use Rattle.zw_files.specs.declared.err.GatherErr.TheVariants as gather
 use Rattle.zw_files.specs.declared.file_set.FileSet.{FileSet}
 use Rattle.zw_files.specs.declared.turn.Gathering.{Gathering}
-use Rattle.zw_files.specs.declared.stops.TheConstants.{FILES_LIMIT, TREE_LIMIT}
+use Rattle.zw_files.specs.declared.stops.TheConstants.{FILE_LIMIT, FILES_LIMIT, TREE_LIMIT}
 
 -- the paths of a map, in their order
 abbrev pub names_in : {S : Type 0} → IndexMap (Vec ℕ Global) Place S → List (List ℕ)
@@ -72,7 +73,7 @@ FilePasses root found path place before after then = (answer : Answer) × Adds b
 abbrev pub FileStops : List ℕ → Found → List ℕ → Place → List Handed → List Handed → GatherErr → Type 0
 FileStops root found path place before after (gather.Stop stop word) = (answer : Answer) × Adds before after path answer × Takes root found path place answer (Err (stop, word))
 FileStops root found path place before after gather.Failed = after ≡ before
-FileStops root found path place before after gather.Oom = (after ≡ before) ⊎ ((answer : Answer) × Adds before after path answer)
+FileStops root found path place before after gather.Oom = (after ≡ before) ⊎ ((answer : Answer) × Adds before after path answer × IsAnswerAt FILE_LIMIT answer)
 
 -- the tree failed at a load
 abbrev pub failed : {T : Type 0} → Result T GatherErr → Bool
@@ -111,7 +112,7 @@ pub record FailsAt (root : List ℕ) (from : Found) (before after : List Handed)
 pub data Begins (root : List ℕ) (from : Found) : List Handed → Type 0 where
   past : {files : List Handed} {found : Found} → Leads root from files found → Begins root from files
   within : {files : List Handed} {found : Found} (handed : Handed) (place : Place) → Leads root from files found → IsNext found handed.path place
-      → Begins root from (files ++ handed ∷ [])
+      → IsAnswerAt FILE_LIMIT handed.answer → Begins root from (files ++ handed ∷ [])
 
 pub record BeginsWith (root : List ℕ) (from : Found) (before after : List Handed) : Type 0 where
   pub files : List Handed

@@ -1,5 +1,5 @@
-//! The files of a tree, from its root on: each is loaded and read in the order in which it is found, and its imports name further
-//! ones.
+//! The files of a tree, from its root on: the paths of imports, the order in which files are found, loaded and read, and the
+//! first stop of the rules on files. It must not know: types, modules.
 #![tactic(auto)]
 
 mod err;
@@ -15,7 +15,10 @@ mod turn;
 pub use err::GatherErr;
 pub use file_set::FileSet;
 pub use gathering::gather;
-pub use laws::{discoveries_are_worked, one_discovery, one_end, paths_are_worked, texts_read_once};
+pub use laws::{
+    discoveries_are_worked, limits_are_fixed, one_discovery, one_end, paths_are_worked,
+    stops_are_numbered, texts_read_once,
+};
 pub use stops::{
     FILE_ABSENT, FILE_LENGTH, FILE_LIMIT, FILES, FILES_LIMIT, IMPORT_PATH, TREE_LENGTH, TREE_LIMIT,
 };

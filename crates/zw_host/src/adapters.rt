@@ -51,7 +51,7 @@ impl<R: Files> Tree for HostTree<'_, R> {
                 Err(LoadErr::Absent)
             }
             Err(LoadErr::TooLong) => {
-                hand_over(self.alloc, &mut self.handed, path, Answer::TooLong)?;
+                hand_over(self.alloc, &mut self.handed, path, Answer::TooLong(limit))?;
                 Err(LoadErr::TooLong)
             }
             Err(LoadErr::Failed) => {

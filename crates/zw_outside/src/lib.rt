@@ -1,5 +1,5 @@
-//! The outside over memory: a tree of files, an input and outputs whose content is known. Each has a form that fails at the calls
-//! that a list names, and one that never fails. The crate knows nothing of real files, Zig or WebAssembly.
+//! The outside over memory: a tree of files, an input and outputs whose content is known, each with a form that fails at listed
+//! calls and one that never fails. It must not know: real files, Zig, WebAssembly.
 #![tactic(auto)]
 
 mod failures;

@@ -69,7 +69,7 @@ impl Tree for SureTree {
 
     fn load(&mut self, alloc: Global, path: &Word, limit: u64) -> Result<Vec<u8>, LoadErr>
         ensures within { IfOk result (λ bytes. vec_len bytes ≤ limit) }
-        ensures pair { AddsPair (handed_by self.old) (handed_by self.new) path.now result }
+        ensures pair { AddsPair (handed_by self.old) (handed_by self.new) path.now limit result }
         ensures cause { Counts 0 0 (load_failed result) }
 
         // Each answer comes exactly where it is due, and no call fails.
@@ -82,7 +82,7 @@ impl Tree for SureTree {
                 Err(LoadErr::Absent)
             }
             Some(file) if file.bytes.len() as u64 > limit => {
-                hand_over(self.alloc, &mut self.handed, path, Answer::TooLong)?;
+                hand_over(self.alloc, &mut self.handed, path, Answer::TooLong(limit))?;
                 Err(LoadErr::TooLong)
             }
             Some(file) => {
@@ -147,7 +147,7 @@ impl Tree for MemTree {
 
     fn load(&mut self, alloc: Global, path: &Word, limit: u64) -> Result<Vec<u8>, LoadErr>
         ensures within { IfOk result (λ bytes. vec_len bytes ≤ limit) }
-        ensures pair { AddsPair (handed_of self.old) (handed_of self.new) path.now result }
+        ensures pair { AddsPair (handed_of self.old) (handed_of self.new) path.now limit result }
         ensures cause { Counts ((tree_failures self.old).faults) ((tree_failures self.new).faults) (load_failed result) }
 
         // Each answer comes exactly where it is due.

@@ -6,6 +6,7 @@ ghost use Rattle.zw_token.specs.declared.token.Token.{Token};
 ghost use Rattle.zw_tree.specs.Trees.{Forest, count, map_forest, preorder, trees};
 ghost use Rattle.zw_tree.specs.declared.ast.Entry.{Entry};
 ghost use Rattle.zw_grammar.specs.Orders.{AreInOrder};
+ghost use Rattle.zw_grammar.specs.declared.builder.TheConstants.{MAX_DEPTH};
 ghost use Rattle.zw_parse.specs.Syntax.{IsTreeOf, IsSyntaxStop, span_in};
 
 /// A list of tokens has one tree at most.
@@ -43,4 +44,9 @@ pub fn tokens_of_trees()
 pub fn trees_are_small()
     ensures { (file : ℕ) (text : List ℕ) (tokens : List Token) (forest : Forest Entry) →
         IsTreeOf file text tokens forest → count forest < 2 * length tokens }
+{}
+
+/// Rules nest 256 deep at most.
+pub fn depth_is_limited()
+    ensures { MAX_DEPTH ≡ 256 }
 {}

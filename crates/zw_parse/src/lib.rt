@@ -1,4 +1,5 @@
-//! The tree of a text: its tokens are read by the grammar, and the nodes that reading lists become a tree.
+//! The tree of a text: its tokens read by the grammar, and the nodes put into preorder with their places, names and numbers; or
+//! the text's stop. It must not know: the rules of the grammar.
 #![tactic(auto)]
 
 mod laws;
@@ -8,6 +9,8 @@ mod spelling;
 mod syntax;
 mod tree;
 
-pub use laws::{one_stop_of_syntax, one_tree, tokens_of_trees, tree_or_stop, trees_are_small};
+pub use laws::{
+    depth_is_limited, one_stop_of_syntax, one_tree, tokens_of_trees, tree_or_stop, trees_are_small,
+};
 pub use syntax::{NESTING, SYNTAX, parse};
 pub use tree::tree_of;

@@ -12,7 +12,7 @@ use Rattle.zw_tree.specs.declared.kind.NodeKind.{NodeKind}
 use Rattle.zw_tree.specs.declared.kind.NodeKind.TheVariants.{Function, Break, Continue, Return, Try, StructLiteral, AnonymousStruct, ErrorSet, Struct, Enum, Union, Root}
 use Rattle.zw_scope_sites.specs.declared.lists.Binding.{Binding}
 use Rattle.zw_scope_sites.specs.declared.lists.OpenLabel.{OpenLabel}
-use Rattle.zw_scope_sites.specs.Scopes.{Scope, Standing, kind_of, is_name, is_capture, is_label, is_variable, is_inside_container, is_declaration, name_in, label_in, binds, innermost, all_standing, is_unquoted, is_parameter_kind, is_identifier, is_named_member, is_initialiser, is_visible_local, ends_in_block, open_label, is_open, opens_label}
+use Rattle.zw_scope_sites.specs.Scopes.{Scope, Standing, kind_of, is_name, is_capture, is_label, is_variable, is_inside_container, is_declaration, name_in, label_in, binds, innermost, all_standing, is_unquoted, is_parameter_kind, is_identifier, is_named_member, is_initialiser, is_visible_local, ends_in_body, is_inside_function, open_label, is_open, opens_label}
 
 -- a broken rule: the number of the error, and the node at which it is told
 pub record Violation : Type 0 where
@@ -88,9 +88,13 @@ mentioned all = flat_map mentioned_by all
 abbrev pub is_mentioned : List ℕ → ℕ → Bool
 is_mentioned nodes node = list_any (nat_eq node) nodes
 
+-- the function that a parameter stands in has a body
+abbrev pub has_body : Standing → Bool
+has_body s = is_inside_function s.parent && ends_in_body s.behind
+
 -- a local that has to be mentioned: a parameter only where its function has a body
 abbrev pub is_to_be_mentioned : Standing → Bool
-is_to_be_mentioned s = is_local s && (not (is_parameter s) || ends_in_block s.behind)
+is_to_be_mentioned s = is_local s && (not (is_parameter s) || has_body s)
 
 -- Unused (error 10): a local is never mentioned
 abbrev pub unused_at : List ℕ → Standing → Option Entry → List Violation

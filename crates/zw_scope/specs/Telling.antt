@@ -1,6 +1,6 @@
 -- Telling: the violation at a node, and the first of some violations.
 use Rattle.std.specs.Prelude.{◌≡◌, ◌<◌, length, slice_get, ℕ, List, [], All, Contains, Option, Some, None, Bool, true}
-use Rattle.zw_tree.specs.Numbering.{first_root, from}
+use Rattle.zw_tree.specs.Numbering.{first_root, from, parent}
 use Rattle.zw_tree.specs.Trees.{Forest, tree, count}
 use Rattle.zw_tree.specs.declared.ast.Entry.{Entry}
 use Rattle.zw_scope.specs.NameRules.{Violation, NotBehind, is_mentioned, told_at_name}
@@ -20,6 +20,7 @@ pub record IsRead (file : Forest Entry) (lists : Lists) (site : Site) (n : ℕ) 
   pub here : from file n ≡ tree s.entry s.below s.behind
   pub number : s.node ≡ n
   pub placed : IsSite lists site s
+  pub outside : parent file n ≡ None → s.parent ≡ None
 
 -- the first of some violations: none is before it
 pub record IsLeast (vs : List Violation) (v : Violation) : Type 0 where

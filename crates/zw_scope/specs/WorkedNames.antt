@@ -3,7 +3,7 @@ use Rattle.std.specs.Prelude.{◌≡◌, ℕ, ◌+◌, ◌-◌, List, [], ◌∷
 use Rattle.zw_tree.specs.Trees.{Forest, none, tree, beside}
 use Rattle.zw_tree.specs.declared.ast.Entry.{Entry}
 use Rattle.zw_tree.specs.declared.kind.NodeKind.{NodeKind}
-use Rattle.zw_tree.specs.declared.kind.NodeKind.TheVariants.{Root, Function, Name, QuotedName, Blank, Parameter, Identifier, QuotedIdentifier, Block, Return, Number, Const, Field, Struct, Enum, Label, While, Break, Continue, Defer, If, Capture, Else, For, ContinueExpression, Try, ErrorSet, Test, ComptimeBlock}
+use Rattle.zw_tree.specs.declared.kind.NodeKind.TheVariants.{Root, Function, ExternWord, InferredErrorsWord, Name, QuotedName, Blank, Parameter, Identifier, QuotedIdentifier, Block, Return, Number, Const, Field, Struct, Enum, Label, While, Break, Continue, Defer, If, Capture, Else, For, ContinueExpression, Try, ErrorSet, Test, ComptimeBlock}
 use Rattle.zw_scope.specs.NameRules.{Violation, violations}
 
 -- a tree: a node of this kind that begins with this token, its name, and the trees below it
@@ -47,6 +47,10 @@ at error token = record { error = error; token = token }
 abbrev pub told_in : List (Forest Entry) → List Told
 told_in members = map (λ (v : Violation). at v.error v.at.node.first) (violations (form Root 0 members))
 
+-- `fn b(…) … {…}` with this type of the result, these parameters and statements, of which the block begins with this token
+abbrev pub function_to : List (Forest Entry) → List (Forest Entry) → ℕ → List (Forest Entry) → Forest Entry
+function_to result parameters brace statements = form Function 0 ((name 1 b ∷ parameters) ++ (result ++ form Block brace statements ∷ []))
+
 -- `fn b(…) void {…}` with these parameters and statements, of which the block begins with this token
 abbrev pub function : List (Forest Entry) → ℕ → List (Forest Entry) → Forest Entry
 function parameters brace statements =
@@ -59,6 +63,10 @@ pub record WorkedNames : Type 0 where
   pub unused : told_in (function (parameter 3 a ∷ []) 8 [] ∷ []) ≡ at 10 3 ∷ []
   -- `extern fn b(a: u8) void;` needs no mention
   pub extern_unused : told_in (form Function 0 (name 2 b ∷ parameter 4 a ∷ mention 8 u8 ∷ []) ∷ []) ≡ []
+  -- `extern fn b(a: u8) {};`: the block is the type of the result
+  pub extern_block : told_in (form Function 0 (node ExternWord 0 [] [] ∷ name 2 b ∷ parameter 4 a ∷ form Block 8 [] ∷ []) ∷ []) ≡ []
+  -- `fn b(a: u8) { a; } { }`: so is the first block here, in which `a` is a mention as any
+  pub mentioned_in_result : told_in (function_to (form Block 7 (mention 8 a ∷ []) ∷ []) (parameter 3 a ∷ []) 11 [] ∷ []) ≡ []
   -- `fn b(_: u8) void { }`
   pub blank : told_in (function (form Parameter 3 (node Blank 3 (95 ∷ []) [] ∷ mention 5 u8 ∷ []) ∷ []) 8 [] ∷ []) ≡ []
   -- `fn b(a: u8, a: u8) void { a; }`: repeated alone
@@ -104,7 +112,7 @@ pub record WorkedNames : Type 0 where
   -- `fn b() void { for (b, b) |a, a| { a; } }`
   pub two_captures :
       told_in (function [] 5 (form For 6 (mention 8 b ∷ mention 10 b ∷ form Capture 13 (name 13 a ∷ []) ∷ form Capture 15 (name 15 a ∷ []) ∷ form Block 17 (mention 18 a ∷ []) ∷ []) ∷ []) ∷ [])
-      ≡ at 10 13 ∷ at 8 15 ∷ []
+      ≡ at 8 15 ∷ at 10 15 ∷ []
   -- `const b = error{a, a};`
   pub two_errors : told_in (form Const 0 (name 1 b ∷ form ErrorSet 3 (name 5 a ∷ name 7 a ∷ []) ∷ []) ∷ []) ≡ at 11 7 ∷ []
   -- `test a { }`
@@ -150,6 +158,11 @@ pub record WorkedJumps : Type 0 where
   pub inside_defer : told_of (form Defer 6 (form While 7 (mention 9 b ∷ form Block 11 (form Break 12 [] ∷ []) ∷ []) ∷ []) ∷ []) ≡ []
   -- `while (b) { struct { const a = break; }; }`: a container ends what takes a jump
   pub container : told_of (form While 6 (mention 8 b ∷ form Block 10 (form Struct 11 (form Const 13 (name 14 a ∷ form Break 16 [] ∷ []) ∷ []) ∷ []) ∷ []) ∷ []) ≡ at 13 16 ∷ []
+  -- `fn b() { return; } {}` and `fn b() !{ return; } {}`: the first block is the type of the result
+  pub result_block : told_in (function_to (form Block 4 (form Return 5 [] ∷ []) ∷ []) [] 8 [] ∷ []) ≡ at 13 5 ∷ []
+  pub result_block_or_error : told_in (function_to (form InferredErrorsWord 4 [] ∷ form Block 5 (form Return 6 [] ∷ []) ∷ []) [] 9 [] ∷ []) ≡ at 13 6 ∷ []
+  -- `extern fn b() { return; };`
+  pub extern_result_block : told_in (form Function 0 (node ExternWord 0 [] [] ∷ name 2 b ∷ form Block 5 (form Return 6 [] ∷ []) ∷ []) ∷ []) ≡ at 13 6 ∷ []
   -- `const a = try b;`, `comptime { return; }` and `test { try b; }`, as members of a file that has `b`
   pub members :
       told_in (form Const 0 (name 1 a ∷ form Try 3 (mention 4 a ∷ []) ∷ []) ∷ form ComptimeBlock 6 (form Block 7 (form Return 8 [] ∷ []) ∷ []) ∷ form Test 11 (form Block 12 (form Try 13 (mention 14 a ∷ []) ∷ []) ∷ []) ∷ [])

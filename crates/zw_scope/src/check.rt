@@ -1,7 +1,7 @@
 // The names of a tree: which of its nodes are mentioned, and the first violation.
 ghost use Rattle.std.specs.Prelude.{◌≡◌, ◌<◌, ◌++◌, ℕ, List, IfErr, IfOk, OnOk, Some, slice_get};
 ghost use Rattle.zw_scope.specs.NameRules.{AreNamed, IsNameStop, Violation, violations, mentioned_by, mentioned, violations_at};
-ghost use Rattle.zw_scope_sites.specs.Scopes.{ends_in_block, Standing, all_standing};
+ghost use Rattle.zw_scope_sites.specs.Scopes.{Standing, all_standing};
 ghost use Rattle.std.specs.Option.{option_to_list};
 ghost use Rattle.zw_scope_sites.specs.Placing.{AllPlaced};
 ghost use Rattle.zw_scope.specs.Telling.{AreMarks, IsFirstOf};
@@ -17,7 +17,6 @@ use crate::rules::{flow_at, label_at, named_at, shadow_at, unknown_at, unused_at
 use crate::told::{Told, tell};
 use std::alloc::Global;
 use zw_base::{Oom, Refused, Stop, StopKind};
-use zw_scope_sites::nodes::roots_end_in_block;
 use zw_scope_sites::place::{Sites, placed, site_at};
 use zw_tree::Ast;
 
@@ -63,13 +62,11 @@ fn check_node(
     ast: &Ast,
     sites: &Sites,
     marks: &[bool],
-    is_block_last: bool,
     n: u32,
     so_far: Option<Told>,
 ) -> Result<Option<Told>, Oom>
     requires placed { AllPlaced sites.now.lists sites.now.list.items ast.now }
     requires within { n < count ast.now }
-    requires roots { is_block_last ≡ ends_in_block ast.now }
     ensures { IfOk result (λ first. (nodes : List ℕ) (s : Standing) (vs : List Violation) → AreMarks ast.now marks.now nodes → slice_get (all_standing ast.now) n ≡ Some s → IsFirstOf ast.now vs so_far → IsFirstOf ast.now (vs ++ violations_at nodes s) first) }
 {
     let Some(site) = site_at(sites, n) else {
@@ -78,12 +75,7 @@ fn check_node(
     let lists = &sites.lists;
     let shadows = tell(ast, so_far, 8, shadow_at(ast, lists, site, n));
     let unknowns = tell(ast, shadows, 9, unknown_at(ast, lists, site, n));
-    let unused = tell(
-        ast,
-        unknowns,
-        10,
-        unused_at(ast, lists, site, marks, n, is_block_last),
-    );
+    let unused = tell(ast, unknowns, 10, unused_at(ast, lists, site, marks, n));
     let duplicates = tell_duplicates(alloc, ast, n, unused)?;
     let labels = tell(ast, duplicates, 12, label_at(ast, lists, site, n));
     Ok(tell(ast, labels, 13, flow_at(ast, lists, site, n)))
@@ -95,18 +87,9 @@ fn first_violation(alloc: Global, ast: &Ast) -> Result<Option<Told>, Oom>
 {
     let sites = placed(alloc, ast)?;
     let marks = marks_of(alloc, ast, &sites)?;
-    let is_block_last = roots_end_in_block(ast);
     let mut first = None;
     for n in 0..ast.count() {
-        first = check_node(
-            alloc,
-            ast,
-            &sites,
-            marks.as_slice(),
-            is_block_last,
-            n,
-            first,
-        )?;
+        first = check_node(alloc, ast, &sites, marks.as_slice(), n, first)?;
     }
     Ok(first)
 }

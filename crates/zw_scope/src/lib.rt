@@ -1,4 +1,5 @@
-//! The rules on names, labels and jumps in one file.
+//! The rules on names, labels and jumps in one file: the first violation, and which declaration each identifier names. It must
+//! not know: how a text is read.
 #![tactic(auto)]
 
 mod check;

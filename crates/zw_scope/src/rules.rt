@@ -3,8 +3,8 @@ ghost use Rattle.std.specs.Prelude.{◌≡◌, ◌<◌, ◌&&◌, ℕ, List, IfS
 ghost use Rattle.std.specs.Option.{option_to_list};
 ghost use Rattle.std.specs.List.{list_any};
 ghost use Rattle.zw_scope_sites.specs.Firsts.{kind_at};
-ghost use Rattle.zw_scope_sites.specs.Scopes.{ends_in_block, is_visible_local, Scope, Standing, binds, label_in};
-ghost use Rattle.zw_scope.specs.NameRules.{flows, is_declared, is_parameter, unused, is_local, is_repeated, is_shadow, is_to_be_mentioned, label_takes, labels, loop_takes, mentioned_by, names_primitive, shadows, takes, takes_jump, takes_return, unknowns};
+ghost use Rattle.zw_scope_sites.specs.Scopes.{is_visible_local, Scope, Standing, binds, label_in};
+ghost use Rattle.zw_scope.specs.NameRules.{flows, has_body, is_declared, is_parameter, unused, is_local, is_repeated, is_shadow, is_to_be_mentioned, label_takes, labels, loop_takes, mentioned_by, names_primitive, shadows, takes, takes_jump, takes_return, unknowns};
 ghost use Rattle.zw_scope_sites.specs.Sites.{Shows};
 ghost use Rattle.zw_scope.specs.Telling.{AreMarks, IsRead, tells};
 ghost use Rattle.zw_tree.specs.Numbering.{below, first_root, from};
@@ -13,11 +13,11 @@ ghost use Rattle.zw_tree.specs.declared.ast.Entry.{Entry};
 ghost use Rattle.zw_scope_sites.specs.declared.lists.Lists.{Lists};
 
 use zw_scope_sites::kinds::{
-    is_capture, is_declaration, is_identifier, is_inside_container, is_label, is_parameter,
-    is_unquoted, is_variable, opens_label,
+    is_capture, is_declaration, is_identifier, is_inside_container, is_inside_function, is_label,
+    is_parameter, is_unquoted, is_variable, opens_label,
 };
 use zw_scope_sites::lists::{Lists, OpenLabel, binds, innermost, is_open, open_label, sees_local};
-use zw_scope_sites::nodes::{ends_in_block, kind, label_in, name_in, text};
+use zw_scope_sites::nodes::{ends_in_body, kind, label_in, name_in, text};
 use zw_scope_sites::sites::{Site, View};
 use zw_token::is_primitive_name;
 use zw_tree::{Ast, NodeKind};
@@ -132,22 +132,23 @@ pub(crate) fn unknown_at(ast: &Ast, lists: &Lists, site: Site, n: u32) -> Option
     }
 }
 
-/// Whether the last of the parts that a parameter stands among is a block.
-fn has_body(ast: &Ast, n: u32, is_block_last: bool) -> bool
-    requires within { n < count ast.now }
-    requires roots { is_block_last ≡ ends_in_block ast.now }
-    ensures { (s : Standing) → from ast.now n ≡ tree s.entry s.below s.behind → is_parameter s ≡ true → result ≡ ends_in_block s.behind }
+/// Whether the function that a parameter stands in has a body.
+fn has_body(ast: &Ast, site: Site, n: u32) -> bool
+    requires { n < count ast.now }
+    ensures { (lists : Lists) (s : Standing) → IsRead ast.now lists site n s → is_parameter s ≡ true → result ≡ has_body s }
 {
+    if !is_inside_function(site.parent) {
+        return false;
+    }
     match ast.parent(n) {
-        Some(parent) => ends_in_block(ast, parent),
-        None => is_block_last,
+        Some(parent) => ends_in_body(ast, parent),
+        None => false,
     }
 }
 
 /// Whether a node is a local that has to be mentioned: a parameter only where its function has a body.
-fn is_to_be_mentioned(ast: &Ast, site: Site, n: u32, is_block_last: bool) -> bool
-    requires within { n < count ast.now }
-    requires roots { is_block_last ≡ ends_in_block ast.now }
+fn is_to_be_mentioned(ast: &Ast, site: Site, n: u32) -> bool
+    requires { n < count ast.now }
     ensures { (lists : Lists) (s : Standing) → IsRead ast.now lists site n s → result ≡ is_to_be_mentioned s }
 {
     if !is_local(ast, site, n) {
@@ -156,7 +157,7 @@ fn is_to_be_mentioned(ast: &Ast, site: Site, n: u32, is_block_last: bool) -> boo
     if !is_parameter(kind(ast, n)) {
         return true;
     }
-    has_body(ast, n, is_block_last)
+    has_body(ast, site, n)
 }
 
 /// Whether a node is marked.
@@ -167,20 +168,12 @@ fn is_marked(marks: &[bool], n: u32) -> bool
 }
 
 /// The name of a local that has to be mentioned and isn't.
-pub(crate) fn unused_at(
-    ast: &Ast,
-    lists: &Lists,
-    site: Site,
-    marks: &[bool],
-    n: u32,
-    is_block_last: bool,
-) -> Option<u32>
-    requires within { n < count ast.now }
-    requires roots { is_block_last ≡ ends_in_block ast.now }
+pub(crate) fn unused_at(ast: &Ast, lists: &Lists, site: Site, marks: &[bool], n: u32) -> Option<u32>
+    requires { n < count ast.now }
     ensures there { IfSome result (λ c. c < count ast.now) }
     ensures told { (nodes : List ℕ) (s : Standing) → AreMarks ast.now marks.now nodes → IsRead ast.now lists.now site n s → unused nodes s ≡ tells ast.now 10 result }
 {
-    if !is_to_be_mentioned(ast, site, n, is_block_last) {
+    if !is_to_be_mentioned(ast, site, n) {
         return None;
     }
     let name = name_in(ast, n)?;

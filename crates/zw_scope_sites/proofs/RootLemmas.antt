@@ -7,7 +7,7 @@ use Rattle.zw_tree.specs.declared.ast.Entry.{Entry}
 use Rattle.zw_tree.specs.declared.kind.NodeKind.{NodeKind}
 use Rattle.zw_tree.proofs.Nodes.{node_ind, from-behind, parent-inside, parent-behind}
 use Rattle.zw_scope_sites.specs.Firsts.{kind_at}
-use Rattle.zw_scope_sites.specs.Scopes.{ends_in_block, Around, Standing, all_standing, around_file, behind_child, is_block, is_else, is_taken_by, kind_of, seen, stands}
+use Rattle.zw_scope_sites.specs.Scopes.{Around, Standing, all_standing, around_file, behind_child, is_else, is_taken_by, kind_of, seen, stands}
 use Rattle.zw_scope_sites.specs.Sites.{IsSite, Shows}
 use Rattle.zw_scope_sites.specs.declared.lists.Lists.{Lists}
 use Rattle.zw_scope_sites.specs.declared.sites.Site.{Site}
@@ -166,41 +166,13 @@ root-site file n lt up lists site is s got =
     some-same : {X : Type 0} (o : Option X) (x y : X) → o ≡ Some x → o ≡ Some y → x ≡ y
     some-same o x y p q = cc
 
--- ---- the last root
-
-abbrev pub ends_before : Forest Entry → ℕ → Bool
-ends_before file n = over_roots (λ (ends : Bool) (k : ℕ) (kind : NodeKind) (inside : Forest Entry). is_block kind) false 0 file n
-
-pub ends_before-none : (file : Forest Entry) → ends_before file 0 ≡ false
-ends_before-none file = over-none (λ (ends : Bool) (k : ℕ) (kind : NodeKind) (inside : Forest Entry). is_block kind) false 0 file 0 refl
-
-pub ends_before-next : (file : Forest Entry) (n : ℕ) → n < count file → parent file n ≡ None → ends_before file (n + 1) ≡ is_block (kind_at (from file n))
-ends_before-next file n lt up =
-    let more : n + 1 ≡ suc n = omega arith in
-    ap (ends_before file) more ∙ over-root (λ (ends : Bool) (k : ℕ) (kind : NodeKind) (inside : Forest Entry). is_block kind) file n lt false 0 up
-
-pub ends_before-child : (file : Forest Entry) (n p : ℕ) → n < count file → parent file n ≡ Some p → ends_before file (n + 1) ≡ ends_before file n
-ends_before-child file n p lt up =
-    let more : n + 1 ≡ suc n = omega arith in
-    ap (ends_before file) more ∙ over-child (λ (ends : Bool) (k : ℕ) (kind : NodeKind) (inside : Forest Entry). is_block kind) file n lt false 0 p up
-
-ends-over : (ends : Bool) (k : ℕ) (root : Entry) (inside behind : Forest Entry) (n : ℕ) → count (tree root inside behind) ≤ n → over_roots (λ (ends : Bool) (k : ℕ) (kind : NodeKind) (inside : Forest Entry). is_block kind) ends k (tree root inside behind) n ≡ ends_in_block (tree root inside behind)
-ends-over ends k root inside behind zero past = absurd (omega arith)
-ends-over ends k root inside none (suc n) past = refl
-ends-over ends k root inside (tree r i b) (suc n) past = ends-over (is_block (kind_of root)) (suc k + count inside) r i b (n - count inside) (omega arith)
-
-pub ends_before-whole : (file : Forest Entry) (n : ℕ) → count file ≤ n → ends_before file n ≡ ends_in_block file
-ends_before-whole none n past = refl
-ends_before-whole (tree root inside behind) n past = ends-over false 0 root inside behind n past
-
-ends-more : (root : Entry) (inside behind : Forest Entry) → 0 < count behind → ends_in_block (tree root inside behind) ≡ ends_in_block behind
-ends-more root inside none some = absurd (omega arith)
-ends-more root inside (tree r i b) some = refl
-
--- a root ends in a block with those behind it where the whole does
-pub ends-behind : (file : Forest Entry) (n : ℕ) → n < count file → parent file n ≡ None → ends_in_block file ≡ ends_in_block (from file n)
-ends-behind = node_ind (λ file n. parent file n ≡ None → ends_in_block file ≡ ends_in_block (from file n))
-    (λ root inside behind up. refl)
-    (λ root inside behind n lt ih up. absurd (no-root-inside root inside behind n lt up))
-    (λ root inside behind n lt ih up.
-    ends-more root inside behind (omega arith) ∙ ih (root-behind root inside behind n up) ∙ ap ends_in_block (sym (from-behind root inside behind n)))
+-- a root has no parent
+pub root-outside : (file : Forest Entry) (n : ℕ) → n < count file → parent file n ≡ None → (s : Standing) → slice_get (all_standing file) n ≡ Some s → s.parent ≡ None
+root-outside file n lt up s got =
+    let r = root-stands (all_standing file) file n lt around_file 0 (covers-all file) up in
+    let at : 0 + n ≡ n = omega arith in
+    let there : slice_get (all_standing file) n ≡ Some (stands (around_root file n) (0 + n) r.root r.inside r.behind) = ap (slice_get (all_standing file)) (sym at) ∙ r.got in
+    let same : Some (stands (around_root file n) (0 + n) r.root r.inside r.behind) ≡ Some s = sym there ∙ got in
+    let parents : Some (around_root file n).parent ≡ Some s.parent = ap (option_map (λ (t : Standing). t.parent)) same in
+    let is : (around_root file n).parent ≡ s.parent = cc in
+    sym is ∙ over-parent around_file 0 file n

@@ -1,5 +1,5 @@
 -- What a node says, by its number.
-use Rattle.std.proofs.Common.{◌≡◌, ℕ, zero, suc, ◌+◌, ◌<◌, ◌≤◌, List, [], Option, Some, None, MatchOption, true, false, length, slice_get, get_or, add-one, ◌-◌, refl, sym, ap, ◌∙◌, subst, arith}
+use Rattle.std.proofs.Common.{◌≡◌, ℕ, zero, suc, ◌+◌, ◌<◌, ◌≤◌, List, [], Option, Some, None, MatchOption, Bool, true, false, not, ◌&&◌, length, slice_get, get_or, add-one, ◌-◌, refl, sym, ap, ◌∙◌, subst, arith}
 use Rattle.std.specs.Option.{option_map}
 use Rattle.std.proofs.lemmas.Option.{slice_get_past, slice_get-get_or}
 use Rattle.zw_tree.specs.Trees.{Forest, none, tree, count}
@@ -8,9 +8,10 @@ use Rattle.zw_tree.specs.declared.ast.Entry.{Entry}
 use Rattle.zw_tree.specs.declared.ast.Node.{Node}
 use Rattle.zw_tree.proofs.Subtrees.{node-root}
 use Rattle.zw_scope_sites.specs.Firsts.{kind_at, text_at, token_at}
-use Rattle.zw_scope_sites.specs.Scopes.{ends_in_block, is_block, is_label, is_name, kind_of, label_in, name_in}
+use Rattle.zw_scope_sites.specs.Scopes.{ends_in_body, is_before_result, is_block, is_label, is_name, kind_of, label_in, name_in}
+use Rattle.zw_tree.specs.declared.kind.NodeKind.{NodeKind}
 use Rattle.zw_tree.specs.declared.kind.NodeKind.TheVariants.{Unreachable}
-use Rattle.zw_tree.proofs.Standing.{Stands, from-past, from-there, inside-past, child-stands, below-stands, stands-behind, last_get}
+use Rattle.zw_tree.proofs.Standing.{Stands, from-past, from-there, inside-past, child-stands, below-stands, stands-behind}
 
 root-kind : (f : Forest Entry) (node : Node) → option_map (λ (e : Entry). e.node) (first_root f) ≡ Some node → node.kind ≡ kind_at f
 root-kind none node h = absurd (cc)
@@ -135,26 +136,57 @@ pub found-through : (o : Option ℕ) (x y : Option Entry) (forest : Forest Entry
 found-through None x y forest same h = same ∙ h
 found-through (Some c) x y forest same h = (h.0, same ∙ h.1)
 
-pub ends-at : (forest f : Forest Entry) (k c : ℕ) → Stands forest k f → (j : ℕ) → j + 1 ≡ length (roots f k) → slice_get (roots f k) j ≡ Some c → is_block (kind_at (from forest c)) ≡ ends_in_block f
-ends-at forest none k c h j e at = absurd (cc)
-ends-at forest (tree root inside none) k c h zero e at =
-    let same : k ≡ c = cc in
-    subst (λ d. is_block (kind_at (from forest d)) ≡ is_block (kind_of root)) same (ap (λ f. is_block (kind_at f)) h)
-ends-at forest (tree root inside none) k c h (suc j) e at = absurd (omega arith)
-ends-at forest (tree root inside (tree r i b)) k c h zero e at = absurd (omega arith)
-ends-at forest (tree root inside (tree r i b)) k c h (suc j) e at =
-    ends-at forest (tree r i b) (suc (k + count inside)) c (stands-behind forest k root inside (tree r i b) h) j (omega arith) at
+-- the last two of trees side by side
+ends-pair : (forest f : Forest Entry) (k c d : ℕ) → Stands forest k f → (j : ℕ) → j + 2 ≡ length (roots f k) → slice_get (roots f k) j ≡ Some c → slice_get (roots f k) (suc j) ≡ Some d
+    → (not (is_before_result (kind_at (from forest c))) && is_block (kind_at (from forest d))) ≡ ends_in_body f
+ends-pair forest none k c d h j e at at' = absurd (omega arith)
+ends-pair forest (tree root inside none) k c d h j e at at' = absurd (omega arith)
+ends-pair forest (tree root inside (tree next within none)) k c d h zero e at at' =
+    let first : k ≡ c = cc in
+    let second : suc (k + count inside) ≡ d = cc in
+    let here : kind_at (from forest k) ≡ kind_of root = ap kind_at h in
+    let there : kind_at (from forest (suc (k + count inside))) ≡ kind_of next = ap kind_at (stands-behind forest k root inside (tree next within none) h) in
+    ap (λ m. not (is_before_result (kind_at (from forest m))) && is_block (kind_at (from forest d))) (sym first)
+    ∙ ap (λ m. not (is_before_result (kind_at (from forest k))) && is_block (kind_at (from forest m))) (sym second)
+    ∙ ap (λ m. not (is_before_result m) && is_block (kind_at (from forest (suc (k + count inside))))) here
+    ∙ ap (λ m. not (is_before_result (kind_of root)) && is_block m) there
+ends-pair forest (tree root inside (tree next within none)) k c d h (suc j) e at at' = absurd (omega arith)
+ends-pair forest (tree root inside (tree next within (tree r x b))) k c d h zero e at at' = absurd (omega arith)
+ends-pair forest (tree root inside (tree next within (tree r x b))) k c d h (suc j) e at at' =
+    ends-pair forest (tree next within (tree r x b)) (suc (k + count inside)) c d (stands-behind forest k root inside (tree next within (tree r x b)) h) j (omega arith) at at'
 
-pub ends-some : (forest : Forest Entry) (n c : ℕ) → Some c ≡ slice_get (children forest n) (length (children forest n) - 1) → is_block (kind_at (from forest c)) ≡ ends_in_block (below forest n)
-ends-some forest n c at =
-    ends-at forest (below forest n) (suc n) c (below-stands forest n) (length (children forest n) - 1) (last_get (children forest n) c (sym at)) (sym at)
+ends-two : (forest : Forest Entry) (n c d j : ℕ) → j + 2 ≡ length (children forest n) → slice_get (children forest n) j ≡ Some c → slice_get (children forest n) (suc j) ≡ Some d
+    → (not (is_before_result (kind_at (from forest c))) && is_block (kind_at (from forest d))) ≡ ends_in_body (below forest n)
+ends-two forest n c d j e at at' = ends-pair forest (below forest n) (suc n) c d (below-stands forest n) j e at at'
 
-pub ends-none : (forest : Forest Entry) (n : ℕ) → None ≡ slice_get (children forest n) (length (children forest n) - 1) → false ≡ ends_in_block (below forest n)
-ends-none forest n at = by (below forest n) at
+-- the last two children of a node
+module _ (forest : Forest Entry) (n : ℕ) (items : List ℕ) (are : items ≡ children forest n) (two : 2 ≤ length items) where
+  last-two : (not (is_before_result (kind_at (from forest (get_or items (length items - 2) 0)))) && is_block (kind_at (from forest (get_or items (length items - 1) 0)))) ≡ ends_in_body (below forest n)
+  last-two =
+      let j = length items - 2 in
+      let size = ap length are in
+      let next : length items - 1 ≡ suc j = omega arith in
+      let first : slice_get (children forest n) j ≡ Some (get_or items j 0) = ap (λ (xs : List ℕ). slice_get xs j) (sym are) ∙ slice_get-get_or items j 0 (omega arith) in
+      let second : slice_get (children forest n) (suc j) ≡ Some (get_or items (length items - 1) 0) =
+      ap (λ (xs : List ℕ). slice_get xs (suc j)) (sym are) ∙ ap (slice_get items) (sym next) ∙ slice_get-get_or items (length items - 1) 0 (omega arith) in
+      ends-two forest n (get_or items j 0) (get_or items (length items - 1) 0) j (omega (arith, size)) first second
+
+  pub body-last : (k : NodeKind) → k ≡ kind_at (from forest (get_or items (length items - 2) 0)) → is_before_result k ≡ false → is_block (kind_at (from forest (get_or items (length items - 1) 0))) ≡ ends_in_body (below forest n)
+  body-last k is before =
+      let b = is_block (kind_at (from forest (get_or items (length items - 1) 0))) in
+      let e : is_before_result (kind_at (from forest (get_or items (length items - 2) 0))) ≡ false = ap is_before_result (sym is) ∙ before in
+      sym (ap (λ (t : Bool). not t && b) e) ∙ last-two
+
+  pub no-body : (k : NodeKind) → k ≡ kind_at (from forest (get_or items (length items - 2) 0)) → is_before_result k ≡ true → false ≡ ends_in_body (below forest n)
+  no-body k is before =
+      let b = is_block (kind_at (from forest (get_or items (length items - 1) 0))) in
+      let e : is_before_result (kind_at (from forest (get_or items (length items - 2) 0))) ≡ true = ap is_before_result (sym is) ∙ before in
+      sym (ap (λ (t : Bool). not t && b) e) ∙ last-two
+
+pub ends-short : (forest : Forest Entry) (n : ℕ) (items : List ℕ) → items ≡ children forest n → length items < 2 → false ≡ ends_in_body (below forest n)
+ends-short forest n items are few = by (below forest n) (subst (λ (xs : List ℕ). length xs < 2) are few)
   where
-    by : (f : Forest Entry) → None ≡ slice_get (roots f (suc n)) (length (roots f (suc n)) - 1) → false ≡ ends_in_block f
-    by none at = refl
-    by (tree root inside behind) at = absurd (there (roots (tree root inside behind) (suc n)) (omega arith) at)
-      where
-        there : (xs : List ℕ) → 0 < length xs → None ≡ slice_get xs (length xs - 1) → ⊥
-        there xs some h = let e = slice_get-get_or xs (length xs - 1) 0 (omega arith) in cc
+    by : (f : Forest Entry) → length (roots f (suc n)) < 2 → false ≡ ends_in_body f
+    by none few = refl
+    by (tree root inside none) few = refl
+    by (tree root inside (tree next within behind)) few = absurd (omega arith)

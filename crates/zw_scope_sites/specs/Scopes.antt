@@ -8,7 +8,7 @@ use Rattle.zw_scope_sites.specs.declared.lists.OpenLabel.{OpenLabel}
 use Rattle.zw_tree.specs.Trees.{Forest, none, tree, count}
 use Rattle.zw_tree.specs.declared.ast.Entry.{Entry}
 use Rattle.zw_tree.specs.declared.kind.NodeKind.{NodeKind}
-use Rattle.zw_tree.specs.declared.kind.NodeKind.TheVariants.{Root, Test, ComptimeBlock, Function, Parameter, Const, Var, Field, Name, QuotedName, Identifier, QuotedIdentifier, FieldInit, Label, Capture, PointerCapture, Defer, ErrDefer, Block, Else, While, ContinueExpression, For, Struct, Enum, Union}
+use Rattle.zw_tree.specs.declared.kind.NodeKind.TheVariants.{Root, Test, ComptimeBlock, Function, PubWord, ExportWord, ExternWord, NoinlineWord, InferredErrorsWord, Parameter, Const, Var, Field, Name, QuotedName, Identifier, QuotedIdentifier, FieldInit, Label, Capture, PointerCapture, Defer, ErrDefer, Block, Else, While, ContinueExpression, For, Struct, Enum, Union}
 
 -- what surrounds a node: the visible names and the open labels, from the inside out; in how many deferred statements the innermost
 -- loop stands, where there is one; whether a function or a test surrounds it, and how many deferred statements of that
@@ -90,6 +90,11 @@ abbrev pub is_label : NodeKind → Bool
 is_label Label = true
 is_label _ = false
 
+-- a node with this parent stands in the head or is the body of a function
+abbrev pub is_inside_function : Option NodeKind → Bool
+is_inside_function (Some Function) = true
+is_inside_function _ = false
+
 -- what a label does where it stands: it names an open one, or opens one
 abbrev pub opens_label : Option NodeKind → Bool
 opens_label (Some Block) = true
@@ -121,7 +126,7 @@ binds bindings name = list_any (has_name name) bindings
 abbrev pub is_visible_local : List ℕ → Binding → Bool
 is_visible_local name binding = binding.is_local && has_name name binding
 
--- of two parameters with one name the second binds nothing
+-- of two parameters of one function, or two captures of one form, with one name the second binds nothing
 abbrev pub first_bound : List Binding → List Binding → List Binding
 first_bound siblings [] = []
 first_bound siblings (binding ∷ others) = if binds siblings binding.name then [] else binding ∷ []
@@ -130,8 +135,8 @@ first_bound siblings (binding ∷ others) = if binds siblings binding.name then 
 abbrev pub binds_local : NodeKind → ℕ → Forest Entry → List Binding → List Binding
 binds_local Const n below siblings = bound n true (name_in below)
 binds_local Var n below siblings = bound n true (name_in below)
-binds_local Capture n below siblings = bound n true (name_in below)
-binds_local PointerCapture n below siblings = bound n true (name_in below)
+binds_local Capture n below siblings = first_bound siblings (bound n true (name_in below))
+binds_local PointerCapture n below siblings = first_bound siblings (bound n true (name_in below))
 binds_local Parameter n below siblings = first_bound siblings (bound n true (name_in below))
 binds_local _ n below siblings = []
 
@@ -158,6 +163,29 @@ in_loop label scope = labelled true label (record scope { loop = Some scope.defe
 abbrev pub in_defer : Scope → Scope
 in_defer scope = record scope { defers = suc scope.defers }
 
+abbrev pub is_block : NodeKind → Bool
+is_block Block = true
+is_block _ = false
+
+-- what stands in a function before the type of its result
+abbrev pub is_before_result : NodeKind → Bool
+is_before_result PubWord = true
+is_before_result ExportWord = true
+is_before_result ExternWord = true
+is_before_result NoinlineWord = true
+is_before_result Name = true
+is_before_result QuotedName = true
+is_before_result Parameter = true
+is_before_result InferredErrorsWord = true
+is_before_result _ = false
+
+-- the last of a function's children, or of those behind a parameter, is the body: a block behind the type of the result
+abbrev pub ends_in_body : Forest Entry → Bool
+ends_in_body none = false
+ends_in_body (tree root below none) = false
+ends_in_body (tree root below (tree next inside none)) = not (is_before_result (kind_of root)) && is_block (kind_of next)
+ends_in_body (tree root below (tree next inside (tree third within behind))) = ends_in_body (tree next inside (tree third within behind))
+
 -- what surrounds the part of a form that it takes: the members of a container, the body of a function, a test or a loop, the
 -- statements of a block, a deferred statement
 abbrev pub taken_scope : NodeKind → ℕ → Forest Entry → Scope → Scope
@@ -165,7 +193,7 @@ taken_scope Root n below scope = in_container (declared (suc n) below) scope
 taken_scope Struct n below scope = in_container (declared (suc n) below) scope
 taken_scope Enum n below scope = in_container (declared (suc n) below) scope
 taken_scope Union n below scope = in_container (declared (suc n) below) scope
-taken_scope Function n below scope = in_body scope
+taken_scope Function n below scope = if ends_in_body below then in_body scope else scope
 taken_scope Test n below scope = in_body scope
 taken_scope Block n below scope = labelled false (label_in below) scope
 taken_scope While n below scope = in_loop (label_in below) scope
@@ -173,16 +201,6 @@ taken_scope For n below scope = in_loop (label_in below) scope
 taken_scope Defer n below scope = in_defer scope
 taken_scope ErrDefer n below scope = in_defer scope
 taken_scope _ n below scope = scope
-
-abbrev pub is_block : NodeKind → Bool
-is_block Block = true
-is_block _ = false
-
--- the last of the children is a block
-abbrev pub ends_in_block : Forest Entry → Bool
-ends_in_block none = false
-ends_in_block (tree root below none) = is_block (kind_of root)
-ends_in_block (tree root below (tree next inside behind)) = ends_in_block (tree next inside behind)
 
 abbrev pub is_else : NodeKind → Bool
 is_else Else = true
@@ -206,7 +224,7 @@ is_taken Root kind behind = is_member kind
 is_taken Struct kind behind = is_member kind
 is_taken Enum kind behind = is_member kind
 is_taken Union kind behind = is_member kind
-is_taken Function kind behind = is_block kind
+is_taken Function kind behind = is_block kind && is_last behind
 is_taken Test kind behind = is_block kind
 is_taken Block kind behind = not (is_label kind)
 is_taken While kind behind = is_loop_part kind behind

@@ -1,6 +1,6 @@
 // What kinds of nodes are for the rules on names.
 ghost use Rattle.std.specs.Prelude.{◌≡◌};
-ghost use Rattle.zw_scope_sites.specs.Scopes.{is_identifier, is_initialiser, is_named_member, is_parameter_kind, is_unquoted, opens_label, is_block, is_capture, is_container, is_declaration, is_else, is_inside_container, is_label, is_last, is_loop_part, is_member, is_name, is_step, is_taken, is_taken_by, is_variable};
+ghost use Rattle.zw_scope_sites.specs.Scopes.{is_identifier, is_initialiser, is_named_member, is_parameter_kind, is_unquoted, opens_label, is_before_result, is_block, is_capture, is_container, is_declaration, is_else, is_inside_container, is_inside_function, is_label, is_last, is_loop_part, is_member, is_name, is_step, is_taken, is_taken_by, is_variable};
 ghost use Rattle.zw_tree.specs.Trees.{Forest};
 ghost use Rattle.zw_tree.specs.declared.ast.Entry.{Entry};
 
@@ -161,6 +161,23 @@ pub(crate) fn is_block(kind: NodeKind) -> bool
     }
 }
 
+/// Whether a node of this kind stands in a function before the type of its result.
+pub(crate) fn is_before_result(kind: NodeKind) -> bool
+    ensures { result ≡ is_before_result kind }
+{
+    match kind {
+        NodeKind::PubWord => true,
+        NodeKind::ExportWord => true,
+        NodeKind::ExternWord => true,
+        NodeKind::NoinlineWord => true,
+        NodeKind::Name => true,
+        NodeKind::QuotedName => true,
+        NodeKind::Parameter => true,
+        NodeKind::InferredErrorsWord => true,
+        _ => false,
+    }
+}
+
 pub(crate) fn is_else(kind: NodeKind) -> bool
     ensures { result ≡ is_else kind }
 {
@@ -175,6 +192,16 @@ fn is_step(kind: NodeKind) -> bool
 {
     match kind {
         NodeKind::ContinueExpression => true,
+        _ => false,
+    }
+}
+
+/// Whether a node with this parent stands in the head or is the body of a function.
+pub fn is_inside_function(parent: Option<NodeKind>) -> bool
+    ensures { result ≡ is_inside_function parent }
+{
+    match parent {
+        Some(NodeKind::Function) => true,
         _ => false,
     }
 }
@@ -207,7 +234,7 @@ fn is_taken(parent: NodeKind, kind: NodeKind, is_end: bool) -> bool
         NodeKind::Struct => is_member(kind),
         NodeKind::Enum => is_member(kind),
         NodeKind::Union => is_member(kind),
-        NodeKind::Function => is_block(kind),
+        NodeKind::Function => is_block(kind) && is_end,
         NodeKind::Test => is_block(kind),
         NodeKind::Block => !is_label(kind),
         NodeKind::While => is_loop_part(kind, is_end),

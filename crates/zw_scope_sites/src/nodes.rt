@@ -3,9 +3,9 @@ ghost use Rattle.std.specs.Prelude.{◌≡◌, ◌<◌, MatchOption, None};
 ghost use Rattle.zw_tree.specs.Numbering.{below, children, first_root, from};
 ghost use Rattle.zw_tree.specs.Trees.{count};
 ghost use Rattle.zw_scope_sites.specs.Firsts.{kind_at, text_at, token_at};
-ghost use Rattle.zw_scope_sites.specs.Scopes.{ends_in_block, label_in, name_in};
+ghost use Rattle.zw_scope_sites.specs.Scopes.{ends_in_body, label_in, name_in};
 
-use crate::kinds::{is_block, is_label, is_name};
+use crate::kinds::{is_before_result, is_block, is_label, is_name};
 use zw_tree::{Ast, NodeKind};
 
 /// The node's kind.
@@ -76,26 +76,12 @@ pub fn label_in(ast: &Ast, n: u32) -> Option<u32>
     None
 }
 
-/// Whether the last root is a block.
-pub fn roots_end_in_block(ast: &Ast) -> bool
-    ensures { result ≡ ends_in_block ast.now }
+/// Whether the last child of a function is its body: a block behind the type of its result.
+pub fn ends_in_body(ast: &Ast, n: u32) -> bool
+    ensures { result ≡ ends_in_body (below ast.now n) }
 {
-    let mut ends = false;
-    for n in 0..ast.count() {
-        if ast.parent(n).is_some() {
-            continue;
-        }
-        ends = is_block(kind(ast, n));
-    }
-    ends
-}
-
-/// Whether the last child of a node is a block.
-pub fn ends_in_block(ast: &Ast, n: u32) -> bool
-    ensures { result ≡ ends_in_block (below ast.now n) }
-{
-    match children(ast, n).last() {
-        Some(child) => is_block(kind(ast, *child)),
-        None => false,
+    match children(ast, n) {
+        [.., before, last] => !is_before_result(kind(ast, *before)) && is_block(kind(ast, *last)),
+        _ => false,
     }
 }

@@ -2,7 +2,7 @@
 ghost use Rattle.std.specs.Prelude.{◌≡◌, ◌++◌, ℕ, suc, true, List, [], IfOk, OnOk, if◌then◌else◌};
 ghost use Rattle.zw_scope_sites.specs.Firsts.{kind_at};
 ghost use Rattle.zw_scope_sites.specs.Lists.{Grows, IsBindings};
-ghost use Rattle.zw_scope_sites.specs.Scopes.{Around, Scope, around_file, base_of, behind_child, binds_local, bound, declared, first_bound, in_body, in_container, in_defer, in_loop, is_last, kind_of, label_in, labelled, name_in, stands, taken_scope};
+ghost use Rattle.zw_scope_sites.specs.Scopes.{Around, Scope, around_file, base_of, behind_child, binds_local, bound, declared, ends_in_body, first_bound, in_body, in_container, in_defer, in_loop, is_last, kind_of, label_in, labelled, name_in, stands, taken_scope};
 ghost use Rattle.zw_scope_sites.specs.Sites.{IsPart, IsSite, Shows, Surrounds, around_at, declared_by, with_siblings};
 ghost use Rattle.zw_tree.specs.Numbering.{below, from};
 ghost use Rattle.zw_tree.specs.Trees.{Forest};
@@ -12,7 +12,7 @@ ghost use Rattle.zw_scope_sites.specs.declared.lists.Lists.{Lists};
 
 use crate::kinds::{is_declaration, is_else, is_inside_container, is_taken_by};
 use crate::lists::{Binding, Lists, OpenLabel, bind, innermost, open};
-use crate::nodes::{children, kind, label_in, name_in, text};
+use crate::nodes::{children, ends_in_body, kind, label_in, name_in, text};
 use sqlite_items::Items;
 use std::alloc::Global;
 use zw_base::Oom;
@@ -140,6 +140,17 @@ fn in_body(view: View) -> View
     }
 }
 
+/// What surrounds the body of a function, if it has one.
+fn in_function(ast: &Ast, n: u32, view: View) -> View
+    ensures { (lists : Lists) (scope : Scope) → Shows lists view scope → Shows lists result (if ends_in_body (below ast.now n) then in_body scope else scope) }
+{
+    if ends_in_body(ast, n) {
+        in_body(view)
+    } else {
+        view
+    }
+}
+
 /// What surrounds a deferred statement.
 fn in_defer(view: View) -> Result<View, Oom>
     ensures { IfOk result (λ v. (lists : Lists) (scope : Scope) → Shows lists view scope → Shows lists v (in_defer scope)) }
@@ -215,7 +226,7 @@ fn taken(alloc: Global, ast: &Ast, lists: &mut Lists, n: u32, view: View) -> Res
         NodeKind::Struct => in_members(alloc, ast, lists, n, view),
         NodeKind::Enum => in_members(alloc, ast, lists, n, view),
         NodeKind::Union => in_members(alloc, ast, lists, n, view),
-        NodeKind::Function => Ok(in_body(view)),
+        NodeKind::Function => Ok(in_function(ast, n, view)),
         NodeKind::Test => Ok(in_body(view)),
         NodeKind::Block => labelled(alloc, ast, lists, false, n, view),
         NodeKind::While => in_loop(alloc, ast, lists, n, view),
@@ -309,7 +320,7 @@ fn bind_child(
     })
 }
 
-/// Whether a parameter has the name of an earlier one.
+/// Whether a parameter or a capture has the name of an earlier one.
 fn is_repeated(ast: &Ast, lists: &Lists, siblings: u32, n: u32) -> bool
     ensures { (bs : List Binding) → IsBindings lists.now siblings bs → (if result then [] else bound n true (name_in (below ast.now n))) ≡ first_bound bs (bound n true (name_in (below ast.now n))) }
 {
@@ -319,8 +330,8 @@ fn is_repeated(ast: &Ast, lists: &Lists, siblings: u32, n: u32) -> bool
     }
 }
 
-/// Binds the name of a parameter for those behind it, if no earlier one has it.
-fn bind_parameter(
+/// Binds the name of a parameter or a capture for those behind it, if no earlier one has it.
+fn bind_first(
     alloc: Global,
     ast: &Ast,
     lists: &mut Lists,
@@ -350,9 +361,9 @@ fn bind_local(
     match kind(ast, n) {
         NodeKind::Const => bind_child(alloc, ast, lists, around, n),
         NodeKind::Var => bind_child(alloc, ast, lists, around, n),
-        NodeKind::Capture => bind_child(alloc, ast, lists, around, n),
-        NodeKind::PointerCapture => bind_child(alloc, ast, lists, around, n),
-        NodeKind::Parameter => bind_parameter(alloc, ast, lists, around, n),
+        NodeKind::Capture => bind_first(alloc, ast, lists, around, n),
+        NodeKind::PointerCapture => bind_first(alloc, ast, lists, around, n),
+        NodeKind::Parameter => bind_first(alloc, ast, lists, around, n),
         _ => Ok(around),
     }
 }

@@ -8,3 +8,4 @@ pub mod Reading
 pub mod Tables
 pub mod Tokens
 pub mod Values
+pub mod Words

@@ -7,6 +7,7 @@ ghost use Rattle.zw_token.specs.Numbers.{digits_value, number_of, is_number, is_
 ghost use Rattle.zw_token.specs.Tables.{signs, NoLongerFront};
 ghost use Rattle.zw_token.specs.Tokens.{Tokens, TextStop, BeginsToken, IsOfKind, IsWord, DoNotOverlap, LiesIn, IsTokenAlone};
 ghost use Rattle.zw_token.specs.Values.{text_of, has_no_escape};
+ghost use Rattle.zw_token.specs.Words.{AreKindsSpelled, AreTablesSpelled};
 
 /// A text has at most one token list.
 pub fn one_list()
@@ -59,4 +60,10 @@ pub fn decimals_are_numbers()
 /// A text without escapes is worth its bytes.
 pub fn texts_without_escapes()
     ensures { (bytes : List ℕ) → IsOfKind TokenKind.Text (34 ∷ bytes ++ 34 ∷ []) → IsTrue (has_no_escape bytes) → text_of (34 ∷ bytes ++ 34 ∷ []) ≡ bytes }
+{}
+
+/// Which words and signs the tables have, and which of them kinds of tokens stand for.
+pub fn words_are_spelled()
+    ensures tables { AreTablesSpelled }
+    ensures kinds { AreKindsSpelled }
 {}

@@ -1,4 +1,5 @@
-//! The tokens of a Zig file. The crate knows nothing of the grammar.
+//! The tokens of a Zig file and its first stop: the lexer, what literals stand for, and the tables of keywords, signs, builtins
+//! and primitive names. It must not know: the grammar.
 #![tactic(auto)]
 
 mod bad;
@@ -15,7 +16,7 @@ mod values;
 
 pub use laws::{
     decimals_are_numbers, digits_alone, names_are_words, one_list, one_stop, signs_are_longest,
-    stop_or_list, texts_without_escapes, tokens_alone, tokens_in_order,
+    stop_or_list, texts_without_escapes, tokens_alone, tokens_in_order, words_are_spelled,
 };
 pub use lexer::tokens;
 pub use names::{is_primitive_name, is_refused_name};
