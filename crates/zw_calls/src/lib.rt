@@ -1,5 +1,5 @@
-//! What a session of calls is asked for in words and text: the words of its calls, their arguments by type, and the replies of its
-//! input. The crate knows nothing of how a session runs.
+//! What a session of calls is asked for in words and text: the words of its calls, their arguments by type, and the replies of
+//! its input. It must not know: the code of modules, machines.
 #![tactic(auto)]
 
 mod arguments;

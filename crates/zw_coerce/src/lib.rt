@@ -1,5 +1,4 @@
-//! When a value of one type becomes a value of another, and which type several types have in common. The crate knows the
-//! types and values of a table, and no program.
+//! When a value of one type becomes a value of another, and which type several types have in common. It must not know: programs.
 #![tactic(auto)]
 
 mod answers;

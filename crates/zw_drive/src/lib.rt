@@ -1,5 +1,5 @@
-//! The compiler as one call: from the words of a command line, over a tree of files, an input and two outputs, to a
-//! status. The crate puts the others together, and knows no real file or stream.
+//! The compiler as one call: from the words of a command line, over a tree of files, an input and two outputs, to a status. It
+//! must not know: real files and streams.
 #![tactic(auto)]
 
 mod build;

@@ -1,4 +1,5 @@
-//! Sessions of module files: calls of exported functions, run by a machine and told in lines.
+//! The session of a module's file: its calls run by a machine, told in lines and written to an output. It must not know: the
+//! words of a command, files, the text of replies.
 #![tactic(auto)]
 
 mod call;

@@ -1,5 +1,5 @@
-//! The form of a file that is built by now: extern functions, and exported functions that call them and whose result is a
-//! sum. The crate knows nothing of modules. The analysis of the whole language will come in its place.
+//! The supported subset of a root file: which members are in it, the first that isn't, and the program of those that are. It
+//! stands until the analysis of the whole language takes its place. It must not know: modules.
 #![tactic(auto)]
 
 mod functions;

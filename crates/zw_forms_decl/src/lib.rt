@@ -1,2 +1,3 @@
-//! The rules of exported functions, constants of a container, statements and calls of functions of the host.
+//! The rules of exported functions, functions of the host, parameters, constants, blocks, `return` and calls; definitions alone.
+//! It must not know: the walk over a tree.
 #![tactic(auto)]

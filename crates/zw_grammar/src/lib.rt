@@ -1,4 +1,5 @@
-//! A grammar as data, and the one machine that reads by it. The crate knows nothing of the language.
+//! Grammars as data, what a text's reading by one is and where it stops, and the one machine that reads by it. It must not know:
+//! the rules of Zig's grammar.
 #![tactic(auto)]
 
 mod builder;

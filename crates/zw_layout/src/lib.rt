@@ -1,4 +1,4 @@
-//! How many bytes a value of a type takes at run time, and where they may begin. The crate knows no program and no memory.
+//! How many bytes a value of a type takes at run time, and its alignment. It must not know: programs, memory.
 #![tactic(auto)]
 
 mod laws;

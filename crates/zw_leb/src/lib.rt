@@ -1,5 +1,5 @@
-//! LEB128, the spellings of whole numbers in the bytes of a module (WebAssembly Core Specification 1.0, 5.2.2): seven
-//! bits a byte, the lowest first. The crate takes no memory.
+//! LEB128, the spellings of whole numbers in the bytes of a module (WebAssembly Core Specification 1.0, 5.2.2): written
+//! shortest, read in every valid spelling; it takes no memory. It must not know: modules.
 #![tactic(auto)]
 
 mod get;

@@ -1,4 +1,4 @@
-//! From programs to modules. The crate knows no text.
+//! From programs to modules, and that a module does what the file of its program means. It must not know: texts.
 #![tactic(auto)]
 
 mod bodies;

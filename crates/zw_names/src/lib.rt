@@ -1,4 +1,4 @@
-//! Sets of names, which number their names from 0 in the order in which they came.
+//! Sets of names, which number their names from 0 in the order in which they came. It must not know: what the names are of.
 #![tactic(auto)]
 
 mod sets;

@@ -1,4 +1,5 @@
-//! Exact arithmetic on whole numbers of Zig's integer types. The crate takes no memory and knows nothing of Zig's text.
+//! Exact arithmetic on whole numbers of Zig's integer types, as definitions over the integers and as functions that equal them;
+//! it takes no memory. It must not know: texts, WebAssembly.
 //!
 //! Every call's operands are values of its type, unless the call says otherwise.
 #![tactic(auto)]

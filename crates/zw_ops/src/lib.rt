@@ -1,4 +1,4 @@
-//! What operators give on known integers, truth values and types. The crate knows no program and no store.
+//! What operators and builtins give on known integers, truth values and types. It must not know: programs, stores.
 #![tactic(auto)]
 
 mod application;

@@ -1,4 +1,5 @@
-//! The grammar of Zig files as data, and the reading of expressions and bodies by it.
+//! Zig's grammar as a table, and the reading of an expression, a body and a file by it, over terminals and over tokens. It must
+//! not know: how nodes are numbered.
 #![tactic(auto)]
 
 mod laws;

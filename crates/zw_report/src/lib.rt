@@ -1,5 +1,5 @@
-//! The lines that tell of a session, its calls, its host calls and its end, and the line that tells of a stop. The crate knows
-//! nothing of how a session runs, nor of words of a command.
+//! The lines that tell of a session (calls, host calls, ends) and the line of a stop, with the names of panics, errors and
+//! limits. It must not know: how a session runs, the words of a command, the outputs.
 #![tactic(auto)]
 
 mod arg;

@@ -1,5 +1,6 @@
-//! Runs a table of worked rows, which is read from the standard input, and prints of each row whether what came is what
-//! was wanted. The head of the table says how a row is written.
+//! The program that runs the table of worked rows, which is read from the standard input, and prints of each row whether what
+//! came is what was wanted; the head of the table says how a row is written. It must not know: what is right: expected values
+//! stand in the table alone.
 #![tactic(auto)]
 
 mod kinds;

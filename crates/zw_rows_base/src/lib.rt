@@ -1,5 +1,5 @@
-//! A table of worked rows as it is written: its rows, their lines, the words, numbers and bytes that stand in them, what is wrong with
-//! one that can't be run, and how what came differs from what was wanted. The crate knows nothing of what a row runs.
+//! A table of worked rows as it is written: its rows, lines, words, numbers and bytes, what is wrong with a row that can't be
+//! run, and how what came differs from what was wanted. It must not know: what a row runs.
 #![tactic(auto)]
 
 mod cases;

@@ -1,5 +1,5 @@
-//! Rows of the front: inputs and outputs, tokens, literals and trees, each by the calls that it is about. The crate knows nothing of
-//! types, modules or commands.
+//! Worked rows of the front: inputs and outputs, tokens, literals and trees, each by the calls that it is about. It must not
+//! know: types, modules, commands.
 #![tactic(auto)]
 
 mod bodies;

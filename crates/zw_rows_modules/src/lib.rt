@@ -1,5 +1,5 @@
-//! Rows of modules: numbers and whole modules in their bytes, the code of operators and its runs, and machines that the rows of
-//! sessions call. The crate knows nothing of texts or commands.
+//! Worked rows of modules: their bytes, the code of operators and its runs, and machines that the rows of sessions call. It must
+//! not know: texts, commands.
 #![tactic(auto)]
 
 mod code;

@@ -1,4 +1,4 @@
-//! Rows of numbers, types and values, each by the calls that it is about. The crate knows nothing of texts, modules or commands.
+//! Worked rows of numbers, types and values, each by the calls that it is about. It must not know: texts, modules, commands.
 #![tactic(auto)]
 
 mod applied;

@@ -1,5 +1,4 @@
-//! Checked operators as code: instructions that give the exact value of an operator, or tell a panic's cause and trap. The
-//! crate knows nothing of Zig's text.
+//! Which operators are served on which types, and the code of each on types of any width. It must not know: texts, programs.
 #![tactic(auto)]
 
 mod laws;

@@ -1,5 +1,5 @@
-//! Operators on integer types of at most 32 bits as code: instructions that give the exact value of an operator, or tell a panic's
-//! cause and trap; and the pieces of which the code on wider types is made too. The crate knows nothing of Zig's text.
+//! The code of operators on integer types of at most 32 bits and on `bool`: instructions that give the exact value, or tell a
+//! panic's cause and trap; and the pieces of which other code is made. It must not know: texts, programs, wider types.
 #![tactic(auto)]
 
 mod casts;

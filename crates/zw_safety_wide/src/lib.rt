@@ -1,5 +1,5 @@
-//! Operators as code where a type has more than 32 bits: casts, how far a number is from 0, counts of bits, reversals, quotients and
-//! rests, saturation and exact shifts, over the pieces of `zw_safety_words`. The crate knows nothing of Zig's text.
+//! The code of operators where a type has more than 32 bits: casts, absolute values, counts of bits, reversals, quotients and
+//! remainders, saturation and exact shifts. It must not know: texts, programs, which operators are served.
 #![tactic(auto)]
 
 mod casts;

@@ -1,5 +1,6 @@
-//! Operators as code where a type has more than 32 bits, on words of 64 bits: sums, differences, products, operators on bits, shifts,
-//! comparisons and `!`; and the pieces of which other code on these words is made. The crate knows nothing of Zig's text.
+//! The code of operators where a type has more than 32 bits, on words of 64 bits: sums, differences, products, operators on
+//! bits, shifts, comparisons and `!`; and the pieces of which other code on these words is made. It must not know: texts,
+//! programs, which operators are served.
 #![tactic(auto)]
 
 mod bits;

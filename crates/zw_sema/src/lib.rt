@@ -1,4 +1,5 @@
-//! The analysis of a file of scalars and the meaning of its exports, as definitions: the walk interprets the rules of the forms.
+//! The analysis of a file of scalars and the meaning of its exports: the walk that interprets the rules of the forms;
+//! definitions alone. It must not know: modules.
 #![tactic(auto)]
 
 mod laws;

@@ -1,8 +1,8 @@
-//! Sessions: a list of calls of exports with the replies of a host, over any machine that says what one call does.
-//! Source, typed program and module are such machines. The crate knows none of them.
+//! Sessions, lists of calls of exports with the replies of a host, over any machine that says what one call does; when two
+//! machines agree, and how agreement on single calls becomes agreement on sessions. It must not know: Zig, WebAssembly.
 //!
-//! The functions here do nothing: their contracts are the laws of the definitions in specs/. What is shown of single
-//! calls is lifted to whole sessions once, for every pair of machines.
+//! The functions here do nothing: their contracts are the laws of the definitions in specs/. What is shown of single calls is
+//! lifted to whole sessions once, for every pair of machines.
 #![tactic(auto)]
 
 mod example;

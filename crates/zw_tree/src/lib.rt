@@ -1,5 +1,5 @@
-//! The tree of a text: numbered nodes in preorder, each of a kind, with its place and its tokens. The crate knows the kinds, and
-//! nothing of tokens or of how a text is read.
+//! The tree of a text: its kinds of nodes with the children of each, and nodes numbered in preorder, each with its place and its
+//! tokens. It must not know: tokens themselves, how a text is read.
 #![tactic(auto)]
 
 mod ast;

@@ -1,5 +1,5 @@
-//! Typed nodes, what they mean, the machine that a list of exported functions is, and typed programs, which write nodes and types down by their
-//! numbers.
+//! Typed nodes and their one meaning, the machine of a list of exported functions, and typed programs, which write nodes and
+//! types down by their numbers; definitions alone. It must not know: texts.
 #![tactic(auto)]
 
 mod laws;

@@ -1,6 +1,5 @@
-//! Places in values: reading and writing the part of a value that a path leads to; and which integers a type has, and whether two
-//! types are one. Its definitions say what an object store is, what values become and what operators give. The crate knows no types'
-//! layout, no text and no program.
+//! Places in values: reading and writing the part that a path leads to; and, as definitions, the object store, unchecked illegal
+//! behaviour, coercions and operators. It must not know: layout, texts, programs.
 #![tactic(auto)]
 
 mod laws;

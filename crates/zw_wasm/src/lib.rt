@@ -1,4 +1,5 @@
-//! WebAssembly modules of the integer profile: as data, as bytes, and what they do. The crate knows nothing of Zig.
+//! WebAssembly modules without floats: as records, as bytes, when they are valid, and what they do by reduction. It must not
+//! know: Zig.
 #![tactic(auto)]
 
 mod encode;

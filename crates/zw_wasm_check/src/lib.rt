@@ -1,4 +1,4 @@
-//! Whether WebAssembly modules of the integer profile are valid.
+//! Whether a module is valid, by the standard's algorithm, and else its first violation. It must not know: what modules do.
 #![tactic(auto)]
 
 mod accesses;

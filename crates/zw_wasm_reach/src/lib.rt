@@ -1,5 +1,5 @@
-//! Which configurations a call comes to by instructions alone, how many values, labels and frames these have, and how deep the code of a
-//! module nests.
+//! Which configurations a call comes to by instructions alone, how many values, labels and frames these have, and how deep the
+//! code of a module nests. It must not know: machines, texts.
 #![tactic(auto)]
 
 mod depth;

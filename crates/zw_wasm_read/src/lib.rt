@@ -1,4 +1,5 @@
-//! Modules from their bytes (WebAssembly Core Specification 1.0, chapter 5), for the integer profile.
+//! Modules from their bytes (WebAssembly Core Specification 1.0, chapter 5), exactly where the bytes spell one; else the place
+//! and cause where reading stops. It must not know: what modules do.
 #![tactic(auto)]
 
 mod bytes;

@@ -1,4 +1,5 @@
-//! Runs valid WebAssembly modules of the integer profile, as the standard's reduction says.
+//! Machines of valid modules: how they begin, and calls of their exported functions with replies of the host, exactly by the
+//! standard's reduction. It must not know: texts, printed lines.
 #![tactic(auto)]
 
 mod actions;

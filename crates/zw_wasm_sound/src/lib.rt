@@ -1,5 +1,7 @@
-//! Type soundness of WebAssembly modules: what the validation algorithm accepts has a type by the standard's rules, and code that
-//! has one never comes to where no rule applies. The functions do nothing: each contract is a law of the definitions.
+//! Type soundness of modules: what the validation algorithm accepts has a type by the standard's rules, and code that has one
+//! never comes to where no rule applies. It must not know: machines, texts.
+//!
+//! The functions here do nothing: each contract is a law of the definitions.
 #![tactic(auto)]
 
 mod laws;

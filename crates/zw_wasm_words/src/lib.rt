@@ -1,5 +1,6 @@
-//! What one instruction does to words: numbers as words of 64 bits, the operators on them, the words of locals and globals, and the
-//! bytes of a memory.
+//! What one instruction does to words: numbers as words of 64 bits, the operators on them, locals and globals, the operands that
+//! a branch takes, the bytes of a memory, and the segments that tables and memories begin with. It must not know: machines,
+//! calls, the host.
 #![tactic(auto)]
 
 pub mod accesses;

@@ -1,9 +1,10 @@
-//! The program: hands the words of the command line, the files, the input and the outputs of the system to the compiler,
-//! and ends with the status that it answers.
+//! The program: hands the words of the command line, the files, the input and the outputs of the system to the compiler, and
+//! ends with the status that it answers. It must not know: anything but that call and the adapters of the system.
 #![tactic(auto)]
 
 use std::alloc::{AllocError, Global};
 use std::env;
+use std::io::ErrorKind;
 use std::process::ExitCode;
 use std::rt::Env;
 use zw_base::Word;
@@ -26,13 +27,17 @@ fn main(rt: HostRuntime) -> ExitCode {
     ExitCode::from(status)
 }
 
-/// The words after the program's name. Where one of them is no text, there are none, which is no command.
+/// The words after the program's name. Where one of them isn't UTF-8, there are none, which is no command.
 fn words<R: Env + AllocGlobal>(rt: &R, alloc: Global) -> Result<Vec<Word>, AllocError> {
     let mut words = Vec::new(alloc);
-    if let Ok(args) = env::args(rt) {
-        for arg in args.skip(1) {
-            words.push(Word::copy(alloc, arg.as_bytes())?)?;
+    match env::args(rt) {
+        Ok(args) => {
+            for arg in args.skip(1) {
+                words.push(Word::copy(alloc, arg.as_bytes())?)?;
+            }
         }
+        Err(error) if error.kind() == ErrorKind::OutOfMemory => return Err(AllocError),
+        Err(_) => {}
     }
     Ok(words)
 }
