@@ -12,6 +12,7 @@ mod int_ty;
 mod laws;
 mod num_fault;
 pub mod op;
+mod operator;
 mod reversal;
 mod saturating;
 mod shifts;
@@ -27,6 +28,9 @@ pub use laws::{
     type_ranges, unsigned_arithmetic, wrapped_values, wrapping_is_exact,
 };
 pub use num_fault::NumFault;
+pub use operator::{
+    Arithmetic, Bitwise, Cast, Comparison, Count, Division, Extreme, Logic, Measure, Operator, Shift, Unary,
+};
 pub use reversal::{bit_reverse, byte_swap};
 pub use saturating::{add_sat, mul_sat, shl_sat, sub_sat};
 pub use shifts::{shl, shl_exact, shr, shr_exact};
