@@ -60,3 +60,21 @@ list_on f tokens i d place before after lt is so_far here =
     ∙ ap (λ l. l ++ place ∷ []) so_far
     ∙ ap (λ p. map f (take i tokens) ++ p ∷ []) here
     ∙ sym (ap (λ n. map f (take n tokens)) e ∙ ap (map f) (take-suc tokens i d lt) ∙ map-append f (take i tokens) (get_or tokens i d ∷ []))
+
+-- what the loop keeps, one token on
+pub record Kept (file : ℕ) (text : List ℕ) (tokens : List Token) (i at : ℕ) (place : Place) (list : List Place) : Type 0 where
+  pub within : at ≤ length text
+  pub ahead : (k : ℕ) (d : Token) → i ≤ k → k < length tokens → at ≤ (get_or tokens k d).start
+  pub place_is : place ≡ place_at file text at
+  pub list_is : list ≡ map (λ (t : Token). place_at file text t.start) (take i tokens)
+
+pub one_on : (file : ℕ) (text : List ℕ) (tokens : List Token) (i at : ℕ) (d : Token) (from place : Place) (before after : List Place) → All (LiesIn text) tokens → DoNotOverlap tokens → i < length tokens → Kept file text tokens i at from before → ((front : List ℕ) → from ≡ place_behind from.file front → place ≡ place_behind from.file (front ++ take ((get_or tokens i d).start - at) (drop at text))) → after ≡ before ++ place ∷ [] → Kept file text tokens (i + 1) (get_or tokens i d).start place after
+one_on file text tokens i at d from place before after all apart lt k moves is =
+    let within = start_within text tokens i d all lt in
+    let there = moved_to file text at (get_or tokens i d).start from place k.place_is (k.ahead i d (omega arith) lt) within moves in
+    record {
+      within = within;
+      ahead = λ j e le fits. start_ahead text tokens i j d e all apart le fits;
+      place_is = there;
+      list_is = list_on (λ (t : Token). place_at file text t.start) tokens i d place before after lt is k.list_is there;
+    }

@@ -1,5 +1,5 @@
 -- The slots of a tree that grows.
-use Rattle.std.proofs.Common.{◌≡◌, ◌≢◌, ℕ, zero, suc, ◌<◌, ◌≤◌, ◌⊎◌, inl, inr, List, [], ◌∷◌, ◌++◌, length, Option, Some, None, slice_get, get_or, set, refl, sym, ap, ◌∙◌, subst, arith, length-append}
+use Rattle.std.proofs.Common.{◌≡◌, ◌≢◌, ℕ, zero, suc, ◌<◌, ◌≤◌, ◌-◌, ◌^◌, ◌⊎◌, inl, inr, List, [], ◌∷◌, ◌++◌, length, Option, Some, None, slice_get, get_or, set, refl, sym, ap, ◌∙◌, subst, arith, length-append}
 use Rattle.std.specs.Option.{option_map}
 use Rattle.std.proofs.lemmas.Bool.{cases_eq, cases_lt}
 use Rattle.std.proofs.lemmas.List.Sums.{fold-append}
@@ -162,3 +162,8 @@ AreSlots-grown slots forest slot (Some n) are grows parent children = AreSlots-u
 
 pub AreSlots-joined : (slots : List Slot) (slot : Slot) → AreSlots slots (forest_of slots) → MayGrow (forest_of slots) slot.parent → slot.children ≡ [] → AreSlots (joined slots slot) (forest_of (joined slots slot))
 AreSlots-joined slots slot are grows children = rw (forest_of-joined slots slot) (AreSlots-grown slots (forest_of slots) slot slot.parent are grows refl children)
+
+-- what the slots are after a node more
+pub one-more : (before after : List Slot) (slot : Slot) (forest : Forest Entry) → forest ≡ forest_of before → AreSlots before (forest_of before) → count forest < 2 ^ 32 - 1 → MayGrow forest slot.parent → slot.children ≡ [] → after ≡ joined before slot → AreSlots after (forest_of after) × (length after < 2 ^ 32)
+one-more before after slot forest is are room grows children now =
+    rw now (AreSlots-joined before slot are (subst (λ f. MayGrow f slot.parent) is grows) children, omega (arith, length-joined before slot, are.sized, ap count is))

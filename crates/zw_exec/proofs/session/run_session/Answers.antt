@@ -26,7 +26,7 @@ call_lines-requires-clause-exported g c =
 pub returns-in_err-told-clause-ends : goal.returns-in_err-told-clause-ends
 returns-in_err-told-clause-ends g c =
     let p = err_from_is_err_and c.from_residual.result c.from_residual.ensures.1 in
-    due_untold c.args.machine.now.code c.args.calls.now (state_of c.args.machine.now c.args.replies.now c.args.steps.now) c.loop-call.call-index c.call-item.result c.loop-call.machine (state_of c.loop-call.machine c.loop-call.replies c.loop-call.steps) (g.O.Sink.taken c.args.out.now) (g.O.Sink.taken c.loop-call.out) c.from_residual.result p.0
+    due_untold _ _ _ _ c.call-item.result c.loop-call.machine _ _ _ _ p.0
     (record { under = c.loop-call.invariant.under; inside = c.loop-call-test.true; item = c.call-item.is; code = c.loop-call.invariant.code }) p.1
 
 pub returns-in_err-told-clause-cause : goal.returns-in_err-told-clause-cause
@@ -37,7 +37,7 @@ returns-in_err-told-clause-cause g c =
 pub returns-in_err-put_all-clause-ends : goal.returns-in_err-put_all-clause-ends
 returns-in_err-put_all-clause-ends g c =
     let p = err_from_is_err_and c.from_residual-in_err-put_all.result c.from_residual-in_err-put_all.ensures.1 in
-    due_cut c.args.machine.now.code c.args.calls.now (state_of c.args.machine.now c.args.replies.now c.args.steps.now) c.loop-call.call-index c.call-item.result c.loop-call.machine (state_of c.loop-call.machine c.loop-call.replies c.loop-call.steps) (g.O.Sink.taken c.args.out.now) (g.O.Sink.taken c.loop-call.out) (g.O.Sink.taken c.put_all.new.sink)
+    due_cut _ _ _ _ c.call-item.result c.loop-call.machine _ _ _ _
     c.in_ok-told.told c.call_lines.new.machine c.call_lines.new.replies c.call_lines.new.steps c.deref.result.now c.from_residual-in_err-put_all.result p.0
     (record { under = c.loop-call.invariant.under; inside = c.loop-call-test.true; item = c.call-item.is; code = c.loop-call.invariant.code }) c.in_ok-told.ensures c.deref.ensures.value c.in_err-put_all.ensures.err p.1
 
@@ -48,7 +48,7 @@ returns-in_err-put_all-clause-cause g c =
 
 pub returns-then-ne-clause-ends : goal.returns-then-ne-clause-ends
 returns-then-ne-clause-ends g c =
-    due_ended c.args.machine.now.code c.args.calls.now (state_of c.args.machine.now c.args.replies.now c.args.steps.now) c.loop-call.call-index c.call-item.result c.loop-call.machine (state_of c.loop-call.machine c.loop-call.replies c.loop-call.steps) (g.O.Sink.taken c.args.out.now) (g.O.Sink.taken c.loop-call.out) (g.O.Sink.taken c.put_all.new.sink)
+    due_ended _ _ _ _ c.call-item.result c.loop-call.machine _ _ _ _
     c.in_ok-told.told c.call_lines.new.machine c.call_lines.new.replies c.call_lines.new.steps c.deref.result.now
     (record { under = c.loop-call.invariant.under; inside = c.loop-call-test.true; item = c.call-item.is; code = c.loop-call.invariant.code }) c.in_ok-told.ensures c.deref.ensures.value c.in_ok-put_all.ensures.ok
     (differs_true the_type _ _ (sym c.ne.ensures ∙ c.if-ne.true))
@@ -61,7 +61,7 @@ loop-call-preserved g c =
     let done : c.in_ok-told.told.end ≡ Done = differs_false the_type (search rules) _ _ (sym c.ne.ensures ∙ c.if-ne.false) in
     record {
       under =
-          due_more c.args.machine.now.code c.args.calls.now (state_of c.args.machine.now c.args.replies.now c.args.steps.now) c.loop-call.call-index c.call-item.result c.loop-call.machine (state_of c.loop-call.machine c.loop-call.replies c.loop-call.steps) (g.O.Sink.taken c.args.out.now) (g.O.Sink.taken c.loop-call.out) (g.O.Sink.taken c.put_all.new.sink)
+          due_more _ _ _ _ c.call-item.result c.loop-call.machine _ _ _ _
           c.in_ok-told.told c.call_lines.new.machine c.call_lines.new.replies c.call_lines.new.steps c.deref.result.now
           (record { under = c.loop-call.invariant.under; inside = c.loop-call-test.true; item = c.call-item.is; code = c.loop-call.invariant.code }) c.in_ok-told.ensures c.deref.ensures.value c.in_ok-put_all.ensures.ok done;
       code = c.in_ok-told.ensures.code ∙ c.loop-call.invariant.code;
