@@ -32,7 +32,7 @@ returns c =
     record {
       lines =
           c.in_ok-text.ensures
-          ∙ lines_in _ _ _ c.call.new.self.code _ _ _ _ c.module.ensures c.as_slice-2.ensures.value ended
+          ∙ lines_in c.args.call.now.name c.args.call.now.args _ c.call.new.self.code _ _ c.in_ok-end.end (outcome_end c.call.new.self.code (store_of c.call.new.self) c.in_ok-outcome.outcome) c.module.ensures c.as_slice-2.ensures.value ended
           ∙ sym come.lines;
       ends = ends ∙ ap session_end ended ∙ come.ends;
       left = come.left;
