@@ -13,11 +13,10 @@ use zw_grammar::{Entry, Rule, add_rules};
 use zw_tree::NodeKind;
 
 // The rules of this part, in the order of their numbers.
-const RULES: [Entry; 100] = [
+const RULES: [Entry; 97] = [
     // BODIED
     On(L_BRACE),
     Then(Read(rule::BLOCK)),
-    Then(Read(rule::AFTER_BLOCK)),
     Entry::Alternative,
     On(NAME),
     On(QUOTED),
@@ -45,7 +44,6 @@ const RULES: [Entry; 100] = [
     // BODIED_LABEL
     On(L_BRACE),
     Then(Read(rule::LABELLED_BLOCK)),
-    Then(Read(rule::AFTER_BLOCK)),
     Entry::Alternative,
     Then(Read(rule::LOOP_ASSIGN)),
     Then(Take(SEMICOLON)),
@@ -113,7 +111,6 @@ const RULES: [Entry; 100] = [
     On(ELSE),
     Then(Read(rule::ELSE_PART)),
     Entry::Alternative,
-    Then(Read(rule::AFTER_BLOCK)),
     Entry::Alternative,
     Entry::Rule(4, true),
     // ELSE_PART

@@ -1,22 +1,16 @@
-// The rules of what stands behind labels and blocks.
+// The rules of the `:` of labels.
 ghost use Rattle.std.specs.Prelude.{◌≡◌, ◌++◌, OnOk};
 ghost use Rattle.zw_grammar.specs.Plain.{plain};
 ghost use Rattle.zw_parse_expr.specs.Followers.{followers_rules};
 
-use crate::terminal::{COLON, COLON_NAME, COLON_TARGET, DOT, SEMICOLON};
+use crate::terminal::{COLON, COLON_NAME, COLON_TARGET};
 use zw_base::Oom;
 use zw_grammar::Entry::{On, Then};
 use zw_grammar::Symbol::Take;
 use zw_grammar::{Entry, Rule, add_rules};
 
 // The rules of this part, in the order of their numbers.
-const RULES: [Entry; 23] = [
-    // AFTER_BLOCK: behind a statement that ends with its own block no `.` stands: there it would want a `;` first.
-    On(DOT),
-    Then(Take(SEMICOLON)),
-    Entry::Alternative,
-    Entry::Alternative,
-    Entry::Rule(2, true),
+const RULES: [Entry; 18] = [
     // LABEL_COLON: the `:` behind a label, which a block or a loop follows.
     On(COLON_TARGET),
     Then(Take(COLON_TARGET)),

@@ -15,7 +15,7 @@ use zw_grammar::{Entry, Rule, add_rules};
 use zw_tree::NodeKind;
 
 // The rules of this part, in the order of their numbers.
-const RULES: [Entry; 98] = [
+const RULES: [Entry; 97] = [
     // STATEMENT_NAME
     On(COLON),
     On(COLON_TARGET),
@@ -50,7 +50,6 @@ const RULES: [Entry; 98] = [
     // LABELLED_STATEMENT
     On(L_BRACE),
     Then(Read(rule::LABELLED_BLOCK)),
-    Then(Read(rule::AFTER_BLOCK)),
     Entry::Alternative,
     On(WHILE),
     Then(Build(Wrap(NodeKind::While, 1))),

@@ -16,7 +16,7 @@ use zw_grammar::{Entry, Rule, add_rules};
 use zw_tree::NodeKind;
 
 // The rules of this part, in the order of their numbers.
-const RULES: [Entry; 116] = [
+const RULES: [Entry; 114] = [
     // BLOCK
     Then(Build(Open(NodeKind::Block, 0))),
     Then(Take(L_BRACE)),
@@ -99,13 +99,11 @@ const RULES: [Entry; 116] = [
     On(L_BRACE),
     Then(Build(Enter(0))),
     Then(Read(rule::BLOCK)),
-    Then(Read(rule::AFTER_BLOCK)),
     Then(Build(Leave)),
     Entry::Alternative,
     On(SWITCH),
     Then(Build(Enter(0))),
     Then(Read(rule::SWITCH_FORM)),
-    Then(Read(rule::AFTER_BLOCK)),
     Then(Build(Leave)),
     Entry::Alternative,
     On(COMPTIME),
