@@ -103,23 +103,23 @@ choice_at rules number terminal place rule there small told less =
 
 -- the alternative of a rule at a place
 pub symbols_of : (alternatives : List Alternative) (place : ℕ) (o : Option Alternative) → slice_get alternatives place ≡ o →
-    option_map (λ (a : PlainAlternative). a.symbols) (slice_get (map plain_alternative alternatives) place) ≡ option_map (λ (a : Alternative). a.symbols.now) o
+    option_map (λ (a : PlainAlternative). a.symbols) (slice_get (map plain_alternative alternatives) place) ≡ option_map (λ (a : Alternative). a.symbols.items) o
 symbols_of alternatives place o e =
     ap (λ (p : Option PlainAlternative). option_map (λ (a : PlainAlternative). a.symbols) p) (slice_get-map plain_alternative alternatives place)
     ∙ (ap (λ (q : Option Alternative). option_map (λ (a : PlainAlternative). a.symbols) (option_map plain_alternative q)) e ∙ both o)
   where
-    both : (o : Option Alternative) → option_map (λ (a : PlainAlternative). a.symbols) (option_map plain_alternative o) ≡ option_map (λ (a : Alternative). a.symbols.now) o
+    both : (o : Option Alternative) → option_map (λ (a : PlainAlternative). a.symbols) (option_map plain_alternative o) ≡ option_map (λ (a : Alternative). a.symbols.items) o
     both None = refl
     both (Some a) = refl
 
 pub choice_looked_up : (rules : List Rule) (places : List ℕ) (number terminal place : ℕ) (rule : Rule) (o : Option Alternative) → places ≡ all_places (plain rules) →
-    slice_get rules number ≡ Some rule → terminal < 128 → slice_get places (number * 128 + terminal) ≡ Some place → place < 255 → slice_get rule.alternatives.now place ≡ o →
-    choice (plain rules) number terminal ≡ option_map (λ (a : Alternative). a.symbols.now) o
+    slice_get rules number ≡ Some rule → terminal < 128 → slice_get places (number * 128 + terminal) ≡ Some place → place < 255 → slice_get rule.alternatives.items place ≡ o →
+    choice (plain rules) number terminal ≡ option_map (λ (a : Alternative). a.symbols.items) o
 choice_looked_up rules places number terminal place rule o is there small told less e =
     let plainly : slice_get (plain rules) number ≡ Some (plain_rule rule) =
     slice_get-map plain_rule rules number ∙ ap (λ (q : Option Rule). option_map plain_rule q) there in
     let stands : slice_get (all_places (plain rules)) (number * 128 + terminal) ≡ Some place = sym (ap (λ (l : List ℕ). slice_get l (number * 128 + terminal)) is) ∙ told in
-    choice_at (plain rules) number terminal place (plain_rule rule) plainly small stands less ∙ symbols_of rule.alternatives.now place o e
+    choice_at (plain rules) number terminal place (plain_rule rule) plainly small stands less ∙ symbols_of rule.alternatives.items place o e
 
 -- an item that stands at a place
 pub found : {X : Type 0} (xs : List X) (k : ℕ) (x : X) → k < length xs → x ≡ get_or xs k x → slice_get xs k ≡ Some x
@@ -127,12 +127,12 @@ found {X = X} xs k x less e = slice_get-get_or xs k x less ∙ ap (λ (y : X). S
 
 -- one rule more
 pub next_rule : (rules : List Rule) (i : ℕ) (d : Rule) (old new : List ℕ) → i < length rules → old ++ all_places (plain (drop i rules)) ≡ all_places (plain rules) →
-    new ≡ old ++ places_below 128 (map plain_alternative (get_or rules i d).alternatives.now) → new ++ all_places (plain (drop (i + 1) rules)) ≡ all_places (plain rules)
+    new ≡ old ++ places_below 128 (map plain_alternative (get_or rules i d).alternatives.items) → new ++ all_places (plain (drop (i + 1) rules)) ≡ all_places (plain rules)
 next_rule rules i d old new less so_far pushed =
     let rule = get_or rules i d in
     let behind : drop i rules ≡ rule ∷ drop (suc i) rules = drop-cons rules i d less in
     let next : i + 1 ≡ suc i = omega arith in
-    let front = places_below 128 (map plain_alternative rule.alternatives.now) in
+    let front = places_below 128 (map plain_alternative rule.alternatives.items) in
     let rest = all_places (plain (drop (suc i) rules)) in
     ap (λ (k : ℕ). new ++ all_places (plain (drop k rules))) next
     ∙ (ap (λ (l : List ℕ). l ++ rest) pushed

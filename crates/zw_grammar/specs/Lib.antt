@@ -11,3 +11,4 @@ pub mod Ends
 pub mod Orders
 pub mod Balances
 pub mod Sizes
+pub mod Entries

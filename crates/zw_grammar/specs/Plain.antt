@@ -16,10 +16,10 @@ pub record PlainRule : Type 0 where
   pub may_be_empty : Bool
 
 abbrev pub plain_alternative : Alternative → PlainAlternative
-plain_alternative alternative = record { first = alternative.first.now; symbols = alternative.symbols.now }
+plain_alternative alternative = record { first = alternative.first.items; symbols = alternative.symbols.items }
 
 abbrev pub plain_rule : Rule → PlainRule
-plain_rule rule = record { alternatives = map plain_alternative rule.alternatives.now; steps = rule.steps; may_be_empty = rule.may_be_empty }
+plain_rule rule = record { alternatives = map plain_alternative rule.alternatives.items; steps = rule.steps; may_be_empty = rule.may_be_empty }
 
 abbrev pub plain : List Rule → List PlainRule
 plain rules = map plain_rule rules

@@ -33,19 +33,32 @@ pub enum Symbol {
 }
 
 /// One way to read a rule.
-#[derive(Clone, Copy, Debug, PartialEq, Eq)]
+#[derive(Debug, Drop)]
 pub struct Alternative {
     /// The terminals on which it is chosen; with none it is chosen on each.
-    pub first: &'static [u8],
-    pub symbols: &'static [Symbol],
+    pub first: Vec<u8>,
+    pub symbols: Vec<Symbol>,
 }
 
 /// A rule: the first of its alternatives that the next terminal chooses is read, and no other.
-#[derive(Clone, Copy, Debug, PartialEq, Eq)]
+#[derive(Debug, Drop)]
 pub struct Rule {
-    pub alternatives: &'static [Alternative],
+    pub alternatives: Vec<Alternative>,
     /// The most steps that it takes up to the next terminal, or to the rule's end.
     pub steps: u8,
     /// Whether it can be read without a terminal.
     pub may_be_empty: bool,
+}
+
+/// A line of a table of rules. The alternatives of a rule stand before its end, and what they are made of before theirs.
+#[derive(Clone, Copy, Debug, PartialEq, Eq)]
+pub enum Entry {
+    /// The alternative is chosen on this terminal.
+    On(u8),
+    /// The alternative reads this next.
+    Then(Symbol),
+    /// An alternative ends.
+    Alternative,
+    /// A rule ends, with its `steps` and `may_be_empty`.
+    Rule(u8, bool),
 }

@@ -22,13 +22,13 @@ fn is_first(first: &[u8], terminal: u8) -> bool
 }
 
 // What the first of these alternatives reads that the terminal chooses.
-fn first_choice(alternatives: &[Alternative], terminal: u8) -> Option<&'static [Symbol]>
+fn first_choice(alternatives: &[Alternative], terminal: u8) -> Option<&[Symbol]>
     ensures { MatchOption result (first_choice (map plain_alternative alternatives.now) terminal ≡ None)
         (λ symbols. first_choice (map plain_alternative alternatives.now) terminal ≡ Some symbols.now) }
 {
     for alternative in alternatives {
-        if is_first(alternative.first, terminal) {
-            return Some(alternative.symbols);
+        if is_first(alternative.first.as_slice(), terminal) {
+            return Some(alternative.symbols.as_slice());
         }
     }
     None
@@ -40,7 +40,7 @@ fn place_of(alternatives: &[Alternative], terminal: u8) -> u8
 {
     let mut place = 0u8;
     for alternative in alternatives {
-        if is_first(alternative.first, terminal) {
+        if is_first(alternative.first.as_slice(), terminal) {
             return place;
         }
         place = place.saturating_add(1);
@@ -64,34 +64,34 @@ pub(crate) fn all_places(alloc: Global, rules: &[Rule]) -> Result<Vec<u8>, Oom>
 {
     let mut list = Vec::new(alloc);
     for rule in rules {
-        add_places(&mut list, rule.alternatives)?;
+        add_places(&mut list, rule.alternatives.as_slice())?;
     }
     Ok(list)
 }
 
 /// What the rule with this number reads before this terminal, by the places of all rules.
-pub(crate) fn choose(
-    rules: &[Rule],
+pub(crate) fn choose<'a>(
+    rules: &'a [Rule],
     places: &[u8],
     number: u8,
     terminal: u8,
-) -> Option<&'static [Symbol]>
+) -> Option<&'a [Symbol]>
     requires places { places.now ≡ all_places (plain rules.now) }
     ensures { MatchOption result (choice (plain rules.now) number terminal ≡ None)
         (λ symbols. choice (plain rules.now) number terminal ≡ Some symbols.now) }
 {
     let rule = rules.get(number as usize)?;
     if terminal >= LOOKED_UP {
-        return first_choice(rule.alternatives, terminal);
+        return first_choice(rule.alternatives.as_slice(), terminal);
     }
     let Some(place) = places.get(number as usize * LOOKED_UP as usize + terminal as usize) else {
-        return first_choice(rule.alternatives, terminal);
+        return first_choice(rule.alternatives.as_slice(), terminal);
     };
     if *place == LAST_PLACE {
-        return first_choice(rule.alternatives, terminal);
+        return first_choice(rule.alternatives.as_slice(), terminal);
     }
     match rule.alternatives.get(*place as usize) {
-        Some(alternative) => Some(alternative.symbols),
+        Some(alternative) => Some(alternative.symbols.as_slice()),
         None => None,
     }
 }

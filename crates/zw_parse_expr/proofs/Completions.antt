@@ -151,7 +151,6 @@ completions =
     record { text = (1 ∷ []); steps = 4; behind = (89 ∷ []) } ∷
     record { text = []; steps = 6; behind = (89 ∷ []) } ∷
     record { text = (1 ∷ []); steps = 3; behind = (89 ∷ []) } ∷
-    record { text = []; steps = 1; behind = (93 ∷ []) } ∷
     record { text = (104 ∷ []); steps = 2; behind = (92 ∷ []) } ∷
     record { text = (105 ∷ []); steps = 2; behind = (96 ∷ []) } ∷
     []

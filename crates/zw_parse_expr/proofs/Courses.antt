@@ -151,7 +151,6 @@ courses =
     builds 0 0 true 1 ∷
     builds 1 0 true 1 ∷
     builds 0 0 true 1 ∷
-    builds 0 0 false 0 ∷
     takes 1 ∷
     takes 1 ∷
     []

@@ -150,7 +150,6 @@ excesses =
     record { more = 0; fewer = 1 } ∷
     record { more = 1; fewer = 0 } ∷
     record { more = 0; fewer = 1 } ∷
-    record { more = 0; fewer = 0 } ∷
     record { more = 0; fewer = 2 } ∷
     record { more = 0; fewer = 2 } ∷
     []

@@ -4,7 +4,7 @@ use Rattle.zw_tree.specs.declared.kind.NodeKind.TheVariants.{Else, Label, Name, 
 use Rattle.zw_grammar.specs.declared.grammar.Mark.TheVariants.{Close, Enter, Leave, Open, Word}
 use Rattle.zw_grammar.specs.declared.grammar.Symbol.TheVariants.{Build, Read, Take}
 use Rattle.zw_grammar.specs.Plain.{PlainRule}
-use Rattle.zw_parse_expr.specs.declared.rule.TheConstants.{AFTER_BLOCK, ANY_NAME, ASSIGN, ASSIGN_REST, BITS, BLOCK, BODIED_LABEL, BODIED_NAME, BODY_END, BODY_LABEL, BODY_NAME, COMPARE, CONJUNCTION, DISJUNCTION, ELSE_PART, ELSE_STATEMENT, LABELLED_BLOCK, LABELLED_LOOP, LABEL_COLON, LOOP_ASSIGN, NAME_ASSIGN, PLAIN_CAPTURE, PRODUCT, SHIFT, STATEMENT, SUM}
+use Rattle.zw_parse_expr.specs.declared.rule.TheConstants.{ANY_NAME, ASSIGN, ASSIGN_REST, BITS, BLOCK, BODIED_LABEL, BODIED_NAME, BODY_END, BODY_LABEL, BODY_NAME, COMPARE, CONJUNCTION, DISJUNCTION, ELSE_PART, ELSE_STATEMENT, LABELLED_BLOCK, LABELLED_LOOP, LABEL_COLON, LOOP_ASSIGN, NAME_ASSIGN, PLAIN_CAPTURE, PRODUCT, SHIFT, STATEMENT, SUM}
 use Rattle.zw_parse_expr.specs.declared.terminal.TheConstants.{ELSE, L_BRACE, NAME, QUOTED, SEMICOLON}
 use Rattle.zw_parse_expr.specs.Classes.{colons}
 
@@ -12,7 +12,7 @@ use Rattle.zw_parse_expr.specs.Classes.{colons}
 abbrev pub bodied : PlainRule
 bodied = record {
   alternatives =
-      record { first = (L_BRACE ∷ []); symbols = (Read BLOCK ∷ Read AFTER_BLOCK ∷ []) } ∷
+      record { first = (L_BRACE ∷ []); symbols = (Read BLOCK ∷ []) } ∷
       record { first = (NAME ∷ QUOTED ∷ []); symbols = (Read ANY_NAME ∷ Read BODIED_NAME ∷ []) } ∷
       record { first = []; symbols = (Read ASSIGN ∷ Take SEMICOLON ∷ []) } ∷
       [];
@@ -35,7 +35,7 @@ bodied_name = record {
 abbrev pub bodied_label : PlainRule
 bodied_label = record {
   alternatives =
-      record { first = (L_BRACE ∷ []); symbols = (Read LABELLED_BLOCK ∷ Read AFTER_BLOCK ∷ []) } ∷
+      record { first = (L_BRACE ∷ []); symbols = (Read LABELLED_BLOCK ∷ []) } ∷
       record { first = []; symbols = (Read LOOP_ASSIGN ∷ Take SEMICOLON ∷ []) } ∷
       [];
   steps = 7;
@@ -102,7 +102,7 @@ abbrev pub else_statement : PlainRule
 else_statement = record {
   alternatives =
       record { first = (ELSE ∷ []); symbols = (Read ELSE_PART ∷ []) } ∷
-      record { first = []; symbols = (Read AFTER_BLOCK ∷ []) } ∷
+      record { first = []; symbols = [] } ∷
       [];
   steps = 4;
   may_be_empty = true;

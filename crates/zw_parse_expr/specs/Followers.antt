@@ -1,19 +1,8 @@
--- The rules of what stands behind labels and blocks.
+-- The rules of the `:` of labels.
 use Rattle.std.specs.Prelude.{List, [], ◌∷◌, true, false}
 use Rattle.zw_grammar.specs.declared.grammar.Symbol.TheVariants.{Take}
 use Rattle.zw_grammar.specs.Plain.{PlainRule}
-use Rattle.zw_parse_expr.specs.declared.terminal.TheConstants.{COLON, COLON_NAME, COLON_TARGET, DOT, SEMICOLON}
-
--- the rule AFTER_BLOCK
-abbrev pub after_block : PlainRule
-after_block = record {
-  alternatives =
-      record { first = (DOT ∷ []); symbols = (Take SEMICOLON ∷ []) } ∷
-      record { first = []; symbols = [] } ∷
-      [];
-  steps = 2;
-  may_be_empty = true;
-}
+use Rattle.zw_parse_expr.specs.declared.terminal.TheConstants.{COLON, COLON_NAME, COLON_TARGET}
 
 -- the rule LABEL_COLON
 abbrev pub label_colon : PlainRule
@@ -41,4 +30,4 @@ break_colon = record {
 
 -- these rules, in the order of their numbers
 abbrev pub followers_rules : List PlainRule
-followers_rules = after_block ∷ label_colon ∷ break_colon ∷ []
+followers_rules = label_colon ∷ break_colon ∷ []

@@ -4,7 +4,7 @@ use Rattle.zw_tree.specs.declared.kind.NodeKind.TheVariants.{Comptime, ComptimeW
 use Rattle.zw_grammar.specs.declared.grammar.Mark.TheVariants.{Close, Enter, Leaf, Leave, Open, Word, Wrap}
 use Rattle.zw_grammar.specs.declared.grammar.Symbol.TheVariants.{Build, Read, Take}
 use Rattle.zw_grammar.specs.Plain.{PlainRule}
-use Rattle.zw_parse_expr.specs.declared.rule.TheConstants.{AFTER_BLOCK, ASSIGN_REST, BITS, BODIED, BODY, COMPARE, CONJUNCTION, DISJUNCTION, ERROR_UNION, FOR_HEAD, INIT, LABELLED_BLOCK, LABELLED_INLINE_STATEMENT, LABELLED_STATEMENT, LABEL_COLON, NAME_ASSIGN, PRODUCT, SHIFT, SUFFIXES, SUM, VARIABLE, WHILE_HEAD}
+use Rattle.zw_parse_expr.specs.declared.rule.TheConstants.{ASSIGN_REST, BITS, BODIED, BODY, COMPARE, CONJUNCTION, DISJUNCTION, ERROR_UNION, FOR_HEAD, INIT, LABELLED_BLOCK, LABELLED_INLINE_STATEMENT, LABELLED_STATEMENT, LABEL_COLON, NAME_ASSIGN, PRODUCT, SHIFT, SUFFIXES, SUM, VARIABLE, WHILE_HEAD}
 use Rattle.zw_parse_expr.specs.declared.terminal.TheConstants.{CONST, FOR, INLINE, L_BRACE, NAME, SEMICOLON, VAR, WHILE}
 use Rattle.zw_parse_expr.specs.Classes.{colons}
 
@@ -33,7 +33,7 @@ name_assign = record {
 abbrev pub labelled_statement : PlainRule
 labelled_statement = record {
   alternatives =
-      record { first = (L_BRACE ∷ []); symbols = (Read LABELLED_BLOCK ∷ Read AFTER_BLOCK ∷ []) } ∷
+      record { first = (L_BRACE ∷ []); symbols = (Read LABELLED_BLOCK ∷ []) } ∷
       record { first = (WHILE ∷ []); symbols = (Build (Wrap While 1) ∷ Read WHILE_HEAD ∷ Read BODY ∷ Build Close ∷ []) } ∷
       record { first = (FOR ∷ []); symbols = (Build (Wrap For 1) ∷ Read FOR_HEAD ∷ Read BODY ∷ Build Close ∷ []) } ∷
       record { first = []; symbols = (Take INLINE ∷ Read LABELLED_INLINE_STATEMENT ∷ []) } ∷

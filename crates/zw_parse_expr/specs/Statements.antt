@@ -4,7 +4,7 @@ use Rattle.zw_tree.specs.declared.kind.NodeKind.TheVariants.{Block, Const, Defer
 use Rattle.zw_grammar.specs.declared.grammar.Mark.TheVariants.{Close, Enter, Leave, Open, Wrap}
 use Rattle.zw_grammar.specs.declared.grammar.Symbol.TheVariants.{Build, Read, Take}
 use Rattle.zw_grammar.specs.Plain.{PlainRule}
-use Rattle.zw_parse_expr.specs.declared.rule.TheConstants.{AFTER_BLOCK, ANY_NAME, ASSIGN, BLOCK, BODIED, BODY, COMPTIME_STATEMENT, FOR_HEAD, IF_HEAD, INLINE_LOOP_STATEMENT, PLAIN_CAPTURE, STATEMENT, STATEMENTS, STATEMENT_NAME, SWITCH_FORM, VARIABLE, WHILE_HEAD}
+use Rattle.zw_parse_expr.specs.declared.rule.TheConstants.{ANY_NAME, ASSIGN, BLOCK, BODIED, BODY, COMPTIME_STATEMENT, FOR_HEAD, IF_HEAD, INLINE_LOOP_STATEMENT, PLAIN_CAPTURE, STATEMENT, STATEMENTS, STATEMENT_NAME, SWITCH_FORM, VARIABLE, WHILE_HEAD}
 use Rattle.zw_parse_expr.specs.declared.terminal.TheConstants.{COMPTIME, CONST, DEFER, ERRDEFER, FOR, IF, INLINE, L_BRACE, NAME, QUOTED, R_BRACE, SEMICOLON, SWITCH, VAR, WHILE}
 
 -- the rule BLOCK
@@ -49,8 +49,8 @@ statement = record {
       record { first = (WHILE ∷ []); symbols = (Build (Enter 0) ∷ Build (Open While 0) ∷ Read WHILE_HEAD ∷ Read BODY ∷ Build Close ∷ Build Leave ∷ []) } ∷
       record { first = (FOR ∷ []); symbols = (Build (Enter 0) ∷ Build (Open For 0) ∷ Read FOR_HEAD ∷ Read BODY ∷ Build Close ∷ Build Leave ∷ []) } ∷
       record { first = (INLINE ∷ []); symbols = (Build (Enter 0) ∷ Take INLINE ∷ Read INLINE_LOOP_STATEMENT ∷ Build Leave ∷ []) } ∷
-      record { first = (L_BRACE ∷ []); symbols = (Build (Enter 0) ∷ Read BLOCK ∷ Read AFTER_BLOCK ∷ Build Leave ∷ []) } ∷
-      record { first = (SWITCH ∷ []); symbols = (Build (Enter 0) ∷ Read SWITCH_FORM ∷ Read AFTER_BLOCK ∷ Build Leave ∷ []) } ∷
+      record { first = (L_BRACE ∷ []); symbols = (Build (Enter 0) ∷ Read BLOCK ∷ Build Leave ∷ []) } ∷
+      record { first = (SWITCH ∷ []); symbols = (Build (Enter 0) ∷ Read SWITCH_FORM ∷ Build Leave ∷ []) } ∷
       record { first = (COMPTIME ∷ []); symbols = (Build (Enter 0) ∷ Take COMPTIME ∷ Read COMPTIME_STATEMENT ∷ Build Leave ∷ []) } ∷
       record { first = (DEFER ∷ []); symbols = (Build (Enter 0) ∷ Build (Open Defer 0) ∷ Take DEFER ∷ Read BODIED ∷ Build Close ∷ Build Leave ∷ []) } ∷
       record { first = (ERRDEFER ∷ []); symbols = (Build (Enter 0) ∷ Build (Open ErrDefer 0) ∷ Take ERRDEFER ∷ Read PLAIN_CAPTURE ∷ Read BODIED ∷ Build Close ∷ Build Leave ∷ []) } ∷

@@ -293,8 +293,6 @@ pub(crate) const PARAMETER_NAME: u8 = 144;
 
 pub(crate) const PARAMETER_TYPE: u8 = 145;
 
-pub(crate) const AFTER_BLOCK: u8 = 146;
+pub(crate) const LABEL_COLON: u8 = 146;
 
-pub(crate) const LABEL_COLON: u8 = 147;
-
-pub(crate) const BREAK_COLON: u8 = 148;
+pub(crate) const BREAK_COLON: u8 = 147;

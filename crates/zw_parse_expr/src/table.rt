@@ -32,63 +32,9 @@ mod switches;
 mod typed_literals;
 mod types;
 
-use crate::terminal::{
-    AMPERSAND, BANG, BREAK, BUILTIN, CHARACTER, COLON, COLON_NAME, COLON_TARGET, COMPTIME, CONST,
-    CONTINUE, DOT, ENUM, ERROR, EXPORT, EXTERN, FN, FOR, IF, IMPORT, INLINE, L_BRACE, L_BRACKET,
-    L_PAREN, LINE_TEXT, MINUS, MINUS_PERCENT, NAME, NOINLINE, NUMBER, PUB, QUESTION, QUOTED,
-    RETURN, STAR, STAR_STAR, STRUCT, SWITCH, TEST, TEXT, TILDE, TRY, UNION, UNREACHABLE, VAR,
-    WHILE,
-};
 use std::alloc::Global;
 use zw_base::Oom;
 use zw_grammar::Rule;
-
-// A `:`, whatever stands behind it.
-const COLONS: [u8; 3] = [COLON, COLON_TARGET, COLON_NAME];
-
-// What an operand begins with.
-const OPERAND_FIRST: [u8; 35] = [
-    BANG,
-    MINUS,
-    TILDE,
-    MINUS_PERCENT,
-    AMPERSAND,
-    TRY,
-    NAME,
-    QUOTED,
-    IF,
-    BREAK,
-    CONTINUE,
-    RETURN,
-    COMPTIME,
-    WHILE,
-    FOR,
-    INLINE,
-    L_BRACE,
-    L_BRACKET,
-    QUESTION,
-    STAR,
-    STAR_STAR,
-    NUMBER,
-    DOT,
-    L_PAREN,
-    BUILTIN,
-    TEXT,
-    CHARACTER,
-    ERROR,
-    SWITCH,
-    LINE_TEXT,
-    UNREACHABLE,
-    IMPORT,
-    STRUCT,
-    ENUM,
-    UNION,
-];
-
-// What a declaration begins with.
-const DECLARATION_FIRST: [u8; 9] = [
-    CONST, VAR, FN, EXPORT, NOINLINE, EXTERN, PUB, TEST, COMPTIME,
-];
 
 // Puts rules at the end.
 fn add_types(list: &mut Vec<Rule>) -> Result<(), Oom>

@@ -9,142 +9,116 @@ use crate::terminal::{
     QUOTED, R_BRACE, R_PAREN, STRUCT, SWITCH, TEXT, UNION, UNREACHABLE,
 };
 use zw_base::Oom;
+use zw_grammar::Entry::{On, Then};
 use zw_grammar::Mark::{Close, Leaf, Open};
 use zw_grammar::Symbol::{Build, Read, Take};
-use zw_grammar::{Alternative, Rule};
+use zw_grammar::{Entry, Rule, add_rules};
 use zw_tree::NodeKind;
 
-const ATOM: Rule = Rule {
-    alternatives: &[
-        Alternative {
-            first: &[NAME],
-            symbols: &[Build(Leaf(NodeKind::Identifier, 0)), Take(NAME)],
-        },
-        Alternative {
-            first: &[NUMBER],
-            symbols: &[Build(Leaf(NodeKind::Number, 0)), Take(NUMBER)],
-        },
-        Alternative {
-            first: &[DOT],
-            symbols: &[Take(DOT), Read(rule::BEHIND_DOT)],
-        },
-        Alternative {
-            first: &[L_PAREN],
-            symbols: &[
-                Build(Open(NodeKind::Parentheses, 0)),
-                Take(L_PAREN),
-                Read(rule::EXPR),
-                Take(R_PAREN),
-                Build(Close),
-            ],
-        },
-        Alternative {
-            first: &[BUILTIN],
-            symbols: &[
-                Build(Open(NodeKind::Builtin, 0)),
-                Take(BUILTIN),
-                Take(L_PAREN),
-                Read(rule::ARGUMENTS),
-                Take(R_PAREN),
-                Build(Close),
-            ],
-        },
-        Alternative {
-            first: &[TEXT],
-            symbols: &[Build(Leaf(NodeKind::Text, 0)), Take(TEXT)],
-        },
-        Alternative {
-            first: &[CHARACTER],
-            symbols: &[Build(Leaf(NodeKind::Character, 0)), Take(CHARACTER)],
-        },
-        Alternative {
-            first: &[QUOTED],
-            symbols: &[Build(Leaf(NodeKind::QuotedIdentifier, 0)), Take(QUOTED)],
-        },
-        Alternative {
-            first: &[ERROR],
-            symbols: &[Take(ERROR), Read(rule::ERROR_FORM)],
-        },
-        Alternative {
-            first: &[L_BRACE],
-            symbols: &[Read(rule::BLOCK)],
-        },
-        Alternative {
-            first: &[SWITCH],
-            symbols: &[Read(rule::SWITCH_FORM)],
-        },
-        Alternative {
-            first: &[LINE_TEXT],
-            symbols: &[
-                Build(Open(NodeKind::Text, 0)),
-                Take(LINE_TEXT),
-                Read(rule::MORE_LINES),
-                Build(Close),
-            ],
-        },
-        Alternative {
-            first: &[UNREACHABLE],
-            symbols: &[Build(Leaf(NodeKind::Unreachable, 0)), Take(UNREACHABLE)],
-        },
-        Alternative {
-            first: &[IMPORT],
-            symbols: &[
-                Build(Open(NodeKind::Builtin, 0)),
-                Take(IMPORT),
-                Take(L_PAREN),
-                Read(rule::IMPORT_PATH),
-                Read(rule::LAST_COMMA),
-                Take(R_PAREN),
-                Build(Close),
-            ],
-        },
-        Alternative {
-            first: &[STRUCT],
-            symbols: &[
-                Build(Open(NodeKind::Struct, 0)),
-                Take(STRUCT),
-                Take(L_BRACE),
-                Read(rule::STRUCT_MEMBERS),
-                Take(R_BRACE),
-                Build(Close),
-            ],
-        },
-        Alternative {
-            first: &[ENUM],
-            symbols: &[
-                Build(Open(NodeKind::Enum, 0)),
-                Take(ENUM),
-                Read(rule::ENUM_TAG),
-                Take(L_BRACE),
-                Read(rule::ENUM_MEMBERS),
-                Take(R_BRACE),
-                Build(Close),
-            ],
-        },
-        Alternative {
-            first: &[UNION],
-            symbols: &[
-                Build(Open(NodeKind::Union, 0)),
-                Take(UNION),
-                Read(rule::UNION_TAG),
-                Take(L_BRACE),
-                Read(rule::UNION_MEMBERS),
-                Take(R_BRACE),
-                Build(Close),
-            ],
-        },
-    ],
-    steps: 4,
-    may_be_empty: false,
-};
-
 // The rules of this part, in the order of their numbers.
-const RULES: [Rule; 1] = [ATOM];
+const RULES: [Entry; 95] = [
+    // ATOM
+    On(NAME),
+    Then(Build(Leaf(NodeKind::Identifier, 0))),
+    Then(Take(NAME)),
+    Entry::Alternative,
+    On(NUMBER),
+    Then(Build(Leaf(NodeKind::Number, 0))),
+    Then(Take(NUMBER)),
+    Entry::Alternative,
+    On(DOT),
+    Then(Take(DOT)),
+    Then(Read(rule::BEHIND_DOT)),
+    Entry::Alternative,
+    On(L_PAREN),
+    Then(Build(Open(NodeKind::Parentheses, 0))),
+    Then(Take(L_PAREN)),
+    Then(Read(rule::EXPR)),
+    Then(Take(R_PAREN)),
+    Then(Build(Close)),
+    Entry::Alternative,
+    On(BUILTIN),
+    Then(Build(Open(NodeKind::Builtin, 0))),
+    Then(Take(BUILTIN)),
+    Then(Take(L_PAREN)),
+    Then(Read(rule::ARGUMENTS)),
+    Then(Take(R_PAREN)),
+    Then(Build(Close)),
+    Entry::Alternative,
+    On(TEXT),
+    Then(Build(Leaf(NodeKind::Text, 0))),
+    Then(Take(TEXT)),
+    Entry::Alternative,
+    On(CHARACTER),
+    Then(Build(Leaf(NodeKind::Character, 0))),
+    Then(Take(CHARACTER)),
+    Entry::Alternative,
+    On(QUOTED),
+    Then(Build(Leaf(NodeKind::QuotedIdentifier, 0))),
+    Then(Take(QUOTED)),
+    Entry::Alternative,
+    On(ERROR),
+    Then(Take(ERROR)),
+    Then(Read(rule::ERROR_FORM)),
+    Entry::Alternative,
+    On(L_BRACE),
+    Then(Read(rule::BLOCK)),
+    Entry::Alternative,
+    On(SWITCH),
+    Then(Read(rule::SWITCH_FORM)),
+    Entry::Alternative,
+    On(LINE_TEXT),
+    Then(Build(Open(NodeKind::Text, 0))),
+    Then(Take(LINE_TEXT)),
+    Then(Read(rule::MORE_LINES)),
+    Then(Build(Close)),
+    Entry::Alternative,
+    On(UNREACHABLE),
+    Then(Build(Leaf(NodeKind::Unreachable, 0))),
+    Then(Take(UNREACHABLE)),
+    Entry::Alternative,
+    On(IMPORT),
+    Then(Build(Open(NodeKind::Builtin, 0))),
+    Then(Take(IMPORT)),
+    Then(Take(L_PAREN)),
+    Then(Read(rule::IMPORT_PATH)),
+    Then(Read(rule::LAST_COMMA)),
+    Then(Take(R_PAREN)),
+    Then(Build(Close)),
+    Entry::Alternative,
+    On(STRUCT),
+    Then(Build(Open(NodeKind::Struct, 0))),
+    Then(Take(STRUCT)),
+    Then(Take(L_BRACE)),
+    Then(Read(rule::STRUCT_MEMBERS)),
+    Then(Take(R_BRACE)),
+    Then(Build(Close)),
+    Entry::Alternative,
+    On(ENUM),
+    Then(Build(Open(NodeKind::Enum, 0))),
+    Then(Take(ENUM)),
+    Then(Read(rule::ENUM_TAG)),
+    Then(Take(L_BRACE)),
+    Then(Read(rule::ENUM_MEMBERS)),
+    Then(Take(R_BRACE)),
+    Then(Build(Close)),
+    Entry::Alternative,
+    On(UNION),
+    Then(Build(Open(NodeKind::Union, 0))),
+    Then(Take(UNION)),
+    Then(Read(rule::UNION_TAG)),
+    Then(Take(L_BRACE)),
+    Then(Read(rule::UNION_MEMBERS)),
+    Then(Take(R_BRACE)),
+    Then(Build(Close)),
+    Entry::Alternative,
+    Entry::Rule(4, false),
+];
 
 // Puts the rules of this part at the end.
 pub(super) fn add(list: &mut Vec<Rule>) -> Result<(), Oom>
     ensures { OnOk result (plain list.new.items ≡ plain list.old.items ++ atoms_rules) }
 {
-    list.extend_from_slice(&RULES)?;
+    add_rules(list, &RULES)?;
     Ok(())
 }

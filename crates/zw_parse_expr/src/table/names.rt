@@ -8,200 +8,107 @@ use crate::terminal::{
     BLANK, COLON, COLON_NAME, COLON_TARGET, COMMA, CONST, NAME, PIPE, QUOTED, R_BRACE, STAR,
 };
 use zw_base::Oom;
+use zw_grammar::Entry::{On, Then};
 use zw_grammar::Mark::{Close, Leaf, Open};
 use zw_grammar::Symbol::{Build, Read, Take};
-use zw_grammar::{Alternative, Rule};
+use zw_grammar::{Entry, Rule, add_rules};
 use zw_tree::NodeKind;
 
-const ANY_NAME: Rule = Rule {
-    alternatives: &[
-        Alternative {
-            first: &[NAME],
-            symbols: &[Take(NAME)],
-        },
-        Alternative {
-            first: &[QUOTED],
-            symbols: &[Take(QUOTED)],
-        },
-    ],
-    steps: 2,
-    may_be_empty: false,
-};
-
-const A_NAME: Rule = Rule {
-    alternatives: &[
-        Alternative {
-            first: &[QUOTED],
-            symbols: &[Build(Leaf(NodeKind::QuotedName, 0)), Take(QUOTED)],
-        },
-        Alternative {
-            first: &[],
-            symbols: &[Build(Leaf(NodeKind::Name, 0)), Take(NAME)],
-        },
-    ],
-    steps: 3,
-    may_be_empty: false,
-};
-
-const BINDING: Rule = Rule {
-    alternatives: &[
-        Alternative {
-            first: &[BLANK],
-            symbols: &[Build(Leaf(NodeKind::Blank, 0)), Take(BLANK)],
-        },
-        Alternative {
-            first: &[],
-            symbols: &[Read(rule::A_NAME)],
-        },
-    ],
-    steps: 4,
-    may_be_empty: false,
-};
-
-const ANY_COLON: Rule = Rule {
-    alternatives: &[
-        Alternative {
-            first: &[COLON_TARGET],
-            symbols: &[Take(COLON_TARGET)],
-        },
-        Alternative {
-            first: &[COLON_NAME],
-            symbols: &[Take(COLON_NAME)],
-        },
-        Alternative {
-            first: &[],
-            symbols: &[Take(COLON)],
-        },
-    ],
-    steps: 2,
-    may_be_empty: false,
-};
-
-const NAMES: Rule = Rule {
-    alternatives: &[
-        Alternative {
-            first: &[R_BRACE],
-            symbols: &[],
-        },
-        Alternative {
-            first: &[],
-            symbols: &[Read(rule::A_NAME), Read(rule::MORE_NAMES)],
-        },
-    ],
-    steps: 4,
-    may_be_empty: true,
-};
-
-const MORE_NAMES: Rule = Rule {
-    alternatives: &[
-        Alternative {
-            first: &[COMMA],
-            symbols: &[Take(COMMA), Read(rule::NAMES)],
-        },
-        Alternative {
-            first: &[],
-            symbols: &[],
-        },
-    ],
-    steps: 2,
-    may_be_empty: true,
-};
-
-const CONST_WORD: Rule = Rule {
-    alternatives: &[
-        Alternative {
-            first: &[CONST],
-            symbols: &[Build(Leaf(NodeKind::ConstWord, 0)), Take(CONST)],
-        },
-        Alternative {
-            first: &[],
-            symbols: &[],
-        },
-    ],
-    steps: 3,
-    may_be_empty: true,
-};
-
-const CAPTURE: Rule = Rule {
-    alternatives: &[
-        Alternative {
-            first: &[PIPE],
-            symbols: &[Take(PIPE), Read(rule::BARRED)],
-        },
-        Alternative {
-            first: &[],
-            symbols: &[],
-        },
-    ],
-    steps: 2,
-    may_be_empty: true,
-};
-
-const BARRED: Rule = Rule {
-    alternatives: &[
-        Alternative {
-            first: &[STAR],
-            symbols: &[
-                Build(Open(NodeKind::PointerCapture, 1)),
-                Take(STAR),
-                Read(rule::BINDING),
-                Take(PIPE),
-                Build(Close),
-            ],
-        },
-        Alternative {
-            first: &[],
-            symbols: &[
-                Build(Open(NodeKind::Capture, 1)),
-                Read(rule::BINDING),
-                Take(PIPE),
-                Build(Close),
-            ],
-        },
-    ],
-    steps: 6,
-    may_be_empty: false,
-};
-
-const PLAIN_CAPTURE: Rule = Rule {
-    alternatives: &[
-        Alternative {
-            first: &[PIPE],
-            symbols: &[
-                Build(Open(NodeKind::Capture, 0)),
-                Take(PIPE),
-                Read(rule::BINDING),
-                Take(PIPE),
-                Build(Close),
-            ],
-        },
-        Alternative {
-            first: &[],
-            symbols: &[],
-        },
-    ],
-    steps: 3,
-    may_be_empty: true,
-};
-
 // The rules of this part, in the order of their numbers.
-const RULES: [Rule; 10] = [
-    ANY_NAME,
-    A_NAME,
-    BINDING,
-    ANY_COLON,
-    NAMES,
-    MORE_NAMES,
-    CONST_WORD,
-    CAPTURE,
-    BARRED,
-    PLAIN_CAPTURE,
+const RULES: [Entry; 77] = [
+    // ANY_NAME
+    On(NAME),
+    Then(Take(NAME)),
+    Entry::Alternative,
+    On(QUOTED),
+    Then(Take(QUOTED)),
+    Entry::Alternative,
+    Entry::Rule(2, false),
+    // A_NAME
+    On(QUOTED),
+    Then(Build(Leaf(NodeKind::QuotedName, 0))),
+    Then(Take(QUOTED)),
+    Entry::Alternative,
+    Then(Build(Leaf(NodeKind::Name, 0))),
+    Then(Take(NAME)),
+    Entry::Alternative,
+    Entry::Rule(3, false),
+    // BINDING
+    On(BLANK),
+    Then(Build(Leaf(NodeKind::Blank, 0))),
+    Then(Take(BLANK)),
+    Entry::Alternative,
+    Then(Read(rule::A_NAME)),
+    Entry::Alternative,
+    Entry::Rule(4, false),
+    // ANY_COLON
+    On(COLON_TARGET),
+    Then(Take(COLON_TARGET)),
+    Entry::Alternative,
+    On(COLON_NAME),
+    Then(Take(COLON_NAME)),
+    Entry::Alternative,
+    Then(Take(COLON)),
+    Entry::Alternative,
+    Entry::Rule(2, false),
+    // NAMES
+    On(R_BRACE),
+    Entry::Alternative,
+    Then(Read(rule::A_NAME)),
+    Then(Read(rule::MORE_NAMES)),
+    Entry::Alternative,
+    Entry::Rule(4, true),
+    // MORE_NAMES
+    On(COMMA),
+    Then(Take(COMMA)),
+    Then(Read(rule::NAMES)),
+    Entry::Alternative,
+    Entry::Alternative,
+    Entry::Rule(2, true),
+    // CONST_WORD
+    On(CONST),
+    Then(Build(Leaf(NodeKind::ConstWord, 0))),
+    Then(Take(CONST)),
+    Entry::Alternative,
+    Entry::Alternative,
+    Entry::Rule(3, true),
+    // CAPTURE
+    On(PIPE),
+    Then(Take(PIPE)),
+    Then(Read(rule::BARRED)),
+    Entry::Alternative,
+    Entry::Alternative,
+    Entry::Rule(2, true),
+    // BARRED
+    On(STAR),
+    Then(Build(Open(NodeKind::PointerCapture, 1))),
+    Then(Take(STAR)),
+    Then(Read(rule::BINDING)),
+    Then(Take(PIPE)),
+    Then(Build(Close)),
+    Entry::Alternative,
+    Then(Build(Open(NodeKind::Capture, 1))),
+    Then(Read(rule::BINDING)),
+    Then(Take(PIPE)),
+    Then(Build(Close)),
+    Entry::Alternative,
+    Entry::Rule(6, false),
+    // PLAIN_CAPTURE
+    On(PIPE),
+    Then(Build(Open(NodeKind::Capture, 0))),
+    Then(Take(PIPE)),
+    Then(Read(rule::BINDING)),
+    Then(Take(PIPE)),
+    Then(Build(Close)),
+    Entry::Alternative,
+    Entry::Alternative,
+    Entry::Rule(3, true),
 ];
 
 // Puts the rules of this part at the end.
 pub(super) fn add(list: &mut Vec<Rule>) -> Result<(), Oom>
     ensures { OnOk result (plain list.new.items ≡ plain list.old.items ++ names_rules) }
 {
-    list.extend_from_slice(&RULES)?;
+    add_rules(list, &RULES)?;
     Ok(())
 }

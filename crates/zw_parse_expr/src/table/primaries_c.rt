@@ -8,112 +8,87 @@ use crate::terminal::{
     BREAK, COMPTIME, CONTINUE, FOR, IF, INLINE, L_BRACE, L_BRACKET, NAME, QUOTED, RETURN, WHILE,
 };
 use zw_base::Oom;
+use zw_grammar::Entry::{On, Then};
 use zw_grammar::Mark::{Close, Open};
 use zw_grammar::Symbol::{Build, Read, Take};
-use zw_grammar::{Alternative, Rule};
+use zw_grammar::{Entry, Rule, add_rules};
 use zw_tree::NodeKind;
 
-const PRIMARY_C: Rule = Rule {
-    alternatives: &[
-        Alternative {
-            first: &[NAME, QUOTED],
-            symbols: &[Read(rule::ANY_NAME), Read(rule::PRIMARY_NAME_C)],
-        },
-        Alternative {
-            first: &[IF],
-            symbols: &[
-                Build(Open(NodeKind::If, 0)),
-                Read(rule::IF_HEAD),
-                Read(rule::EXPR_C),
-                Read(rule::ELSE_EXPR_C),
-                Build(Close),
-            ],
-        },
-        Alternative {
-            first: &[BREAK],
-            symbols: &[
-                Build(Open(NodeKind::Break, 0)),
-                Take(BREAK),
-                Read(rule::BREAK_LABEL_C),
-                Read(rule::OPERAND_C),
-                Build(Close),
-            ],
-        },
-        Alternative {
-            first: &[CONTINUE],
-            symbols: &[
-                Build(Open(NodeKind::Continue, 0)),
-                Take(CONTINUE),
-                Read(rule::BREAK_LABEL_C),
-                Build(Close),
-            ],
-        },
-        Alternative {
-            first: &[RETURN],
-            symbols: &[
-                Build(Open(NodeKind::Return, 0)),
-                Take(RETURN),
-                Read(rule::OPERAND_C),
-                Build(Close),
-            ],
-        },
-        Alternative {
-            first: &[COMPTIME],
-            symbols: &[
-                Build(Open(NodeKind::Comptime, 0)),
-                Take(COMPTIME),
-                Read(rule::EXPR_C),
-                Build(Close),
-            ],
-        },
-        Alternative {
-            first: &[WHILE],
-            symbols: &[
-                Build(Open(NodeKind::While, 0)),
-                Read(rule::WHILE_HEAD),
-                Read(rule::EXPR_C),
-                Read(rule::ELSE_EXPR_C),
-                Build(Close),
-            ],
-        },
-        Alternative {
-            first: &[FOR],
-            symbols: &[
-                Build(Open(NodeKind::For, 0)),
-                Read(rule::FOR_HEAD),
-                Read(rule::EXPR_C),
-                Read(rule::ELSE_EXPR_C),
-                Build(Close),
-            ],
-        },
-        Alternative {
-            first: &[INLINE],
-            symbols: &[Take(INLINE), Read(rule::INLINE_LOOP_C)],
-        },
-        Alternative {
-            first: &[L_BRACE],
-            symbols: &[Read(rule::BLOCK)],
-        },
-        Alternative {
-            first: &[L_BRACKET],
-            symbols: &[Take(L_BRACKET), Read(rule::FRONT_BRACKET)],
-        },
-        Alternative {
-            first: &[],
-            symbols: &[Read(rule::TYPE_BODY), Read(rule::INIT)],
-        },
-    ],
-    steps: 6,
-    may_be_empty: false,
-};
-
 // The rules of this part, in the order of their numbers.
-const RULES: [Rule; 1] = [PRIMARY_C];
+const RULES: [Entry; 66] = [
+    // PRIMARY_C
+    On(NAME),
+    On(QUOTED),
+    Then(Read(rule::ANY_NAME)),
+    Then(Read(rule::PRIMARY_NAME_C)),
+    Entry::Alternative,
+    On(IF),
+    Then(Build(Open(NodeKind::If, 0))),
+    Then(Read(rule::IF_HEAD)),
+    Then(Read(rule::EXPR_C)),
+    Then(Read(rule::ELSE_EXPR_C)),
+    Then(Build(Close)),
+    Entry::Alternative,
+    On(BREAK),
+    Then(Build(Open(NodeKind::Break, 0))),
+    Then(Take(BREAK)),
+    Then(Read(rule::BREAK_LABEL_C)),
+    Then(Read(rule::OPERAND_C)),
+    Then(Build(Close)),
+    Entry::Alternative,
+    On(CONTINUE),
+    Then(Build(Open(NodeKind::Continue, 0))),
+    Then(Take(CONTINUE)),
+    Then(Read(rule::BREAK_LABEL_C)),
+    Then(Build(Close)),
+    Entry::Alternative,
+    On(RETURN),
+    Then(Build(Open(NodeKind::Return, 0))),
+    Then(Take(RETURN)),
+    Then(Read(rule::OPERAND_C)),
+    Then(Build(Close)),
+    Entry::Alternative,
+    On(COMPTIME),
+    Then(Build(Open(NodeKind::Comptime, 0))),
+    Then(Take(COMPTIME)),
+    Then(Read(rule::EXPR_C)),
+    Then(Build(Close)),
+    Entry::Alternative,
+    On(WHILE),
+    Then(Build(Open(NodeKind::While, 0))),
+    Then(Read(rule::WHILE_HEAD)),
+    Then(Read(rule::EXPR_C)),
+    Then(Read(rule::ELSE_EXPR_C)),
+    Then(Build(Close)),
+    Entry::Alternative,
+    On(FOR),
+    Then(Build(Open(NodeKind::For, 0))),
+    Then(Read(rule::FOR_HEAD)),
+    Then(Read(rule::EXPR_C)),
+    Then(Read(rule::ELSE_EXPR_C)),
+    Then(Build(Close)),
+    Entry::Alternative,
+    On(INLINE),
+    Then(Take(INLINE)),
+    Then(Read(rule::INLINE_LOOP_C)),
+    Entry::Alternative,
+    On(L_BRACE),
+    Then(Read(rule::BLOCK)),
+    Entry::Alternative,
+    On(L_BRACKET),
+    Then(Take(L_BRACKET)),
+    Then(Read(rule::FRONT_BRACKET)),
+    Entry::Alternative,
+    Then(Read(rule::TYPE_BODY)),
+    Then(Read(rule::INIT)),
+    Entry::Alternative,
+    Entry::Rule(6, false),
+];
 
 // Puts the rules of this part at the end.
 pub(super) fn add(list: &mut Vec<Rule>) -> Result<(), Oom>
     ensures { OnOk result (plain list.new.items ≡ plain list.old.items ++ primaries_c_rules) }
 {
-    list.extend_from_slice(&RULES)?;
+    add_rules(list, &RULES)?;
     Ok(())
 }

@@ -9,164 +9,112 @@ use crate::terminal::{
     STAR_PIPE, STAR_STAR, TILDE, TRY,
 };
 use zw_base::Oom;
+use zw_grammar::Entry::{On, Then};
 use zw_grammar::Mark::{Close, Open, Wrap};
 use zw_grammar::Symbol::{Build, Read, Take};
-use zw_grammar::{Alternative, Rule};
+use zw_grammar::{Entry, Rule, add_rules};
 use zw_tree::NodeKind;
 
-const PRODUCT_C: Rule = Rule {
-    alternatives: &[
-        Alternative {
-            first: &[STAR],
-            symbols: &[
-                Build(Wrap(NodeKind::Multiply, 1)),
-                Take(STAR),
-                Read(rule::PREFIX_C),
-                Build(Close),
-                Read(rule::PRODUCT_C),
-            ],
-        },
-        Alternative {
-            first: &[SLASH],
-            symbols: &[
-                Build(Wrap(NodeKind::Divide, 1)),
-                Take(SLASH),
-                Read(rule::PREFIX_C),
-                Build(Close),
-                Read(rule::PRODUCT_C),
-            ],
-        },
-        Alternative {
-            first: &[PERCENT],
-            symbols: &[
-                Build(Wrap(NodeKind::Remainder, 1)),
-                Take(PERCENT),
-                Read(rule::PREFIX_C),
-                Build(Close),
-                Read(rule::PRODUCT_C),
-            ],
-        },
-        Alternative {
-            first: &[STAR_STAR],
-            symbols: &[
-                Build(Wrap(NodeKind::Repeat, 1)),
-                Take(STAR_STAR),
-                Read(rule::PREFIX_C),
-                Build(Close),
-                Read(rule::PRODUCT_C),
-            ],
-        },
-        Alternative {
-            first: &[STAR_PERCENT],
-            symbols: &[
-                Build(Wrap(NodeKind::MultiplyWrap, 1)),
-                Take(STAR_PERCENT),
-                Read(rule::PREFIX_C),
-                Build(Close),
-                Read(rule::PRODUCT_C),
-            ],
-        },
-        Alternative {
-            first: &[STAR_PIPE],
-            symbols: &[
-                Build(Wrap(NodeKind::MultiplySaturate, 1)),
-                Take(STAR_PIPE),
-                Read(rule::PREFIX_C),
-                Build(Close),
-                Read(rule::PRODUCT_C),
-            ],
-        },
-        Alternative {
-            first: &[PIPE_PIPE],
-            symbols: &[
-                Build(Wrap(NodeKind::MergeErrors, 1)),
-                Take(PIPE_PIPE),
-                Read(rule::PREFIX_C),
-                Build(Close),
-                Read(rule::PRODUCT_C),
-            ],
-        },
-        Alternative {
-            first: &[],
-            symbols: &[],
-        },
-    ],
-    steps: 3,
-    may_be_empty: true,
-};
-
-const PREFIX_C: Rule = Rule {
-    alternatives: &[
-        Alternative {
-            first: &[BANG],
-            symbols: &[
-                Build(Open(NodeKind::Not, 0)),
-                Take(BANG),
-                Read(rule::PREFIX_C),
-                Build(Close),
-            ],
-        },
-        Alternative {
-            first: &[MINUS],
-            symbols: &[
-                Build(Open(NodeKind::Negate, 0)),
-                Take(MINUS),
-                Read(rule::PREFIX_C),
-                Build(Close),
-            ],
-        },
-        Alternative {
-            first: &[TILDE],
-            symbols: &[
-                Build(Open(NodeKind::BitNot, 0)),
-                Take(TILDE),
-                Read(rule::PREFIX_C),
-                Build(Close),
-            ],
-        },
-        Alternative {
-            first: &[MINUS_PERCENT],
-            symbols: &[
-                Build(Open(NodeKind::NegateWrap, 0)),
-                Take(MINUS_PERCENT),
-                Read(rule::PREFIX_C),
-                Build(Close),
-            ],
-        },
-        Alternative {
-            first: &[AMPERSAND],
-            symbols: &[
-                Build(Open(NodeKind::AddressOf, 0)),
-                Take(AMPERSAND),
-                Read(rule::PREFIX_C),
-                Build(Close),
-            ],
-        },
-        Alternative {
-            first: &[TRY],
-            symbols: &[
-                Build(Open(NodeKind::Try, 0)),
-                Take(TRY),
-                Read(rule::PREFIX_C),
-                Build(Close),
-            ],
-        },
-        Alternative {
-            first: &[],
-            symbols: &[Read(rule::PRIMARY_C)],
-        },
-    ],
-    steps: 7,
-    may_be_empty: false,
-};
-
 // The rules of this part, in the order of their numbers.
-const RULES: [Rule; 2] = [PRODUCT_C, PREFIX_C];
+const RULES: [Entry; 90] = [
+    // PRODUCT_C
+    On(STAR),
+    Then(Build(Wrap(NodeKind::Multiply, 1))),
+    Then(Take(STAR)),
+    Then(Read(rule::PREFIX_C)),
+    Then(Build(Close)),
+    Then(Read(rule::PRODUCT_C)),
+    Entry::Alternative,
+    On(SLASH),
+    Then(Build(Wrap(NodeKind::Divide, 1))),
+    Then(Take(SLASH)),
+    Then(Read(rule::PREFIX_C)),
+    Then(Build(Close)),
+    Then(Read(rule::PRODUCT_C)),
+    Entry::Alternative,
+    On(PERCENT),
+    Then(Build(Wrap(NodeKind::Remainder, 1))),
+    Then(Take(PERCENT)),
+    Then(Read(rule::PREFIX_C)),
+    Then(Build(Close)),
+    Then(Read(rule::PRODUCT_C)),
+    Entry::Alternative,
+    On(STAR_STAR),
+    Then(Build(Wrap(NodeKind::Repeat, 1))),
+    Then(Take(STAR_STAR)),
+    Then(Read(rule::PREFIX_C)),
+    Then(Build(Close)),
+    Then(Read(rule::PRODUCT_C)),
+    Entry::Alternative,
+    On(STAR_PERCENT),
+    Then(Build(Wrap(NodeKind::MultiplyWrap, 1))),
+    Then(Take(STAR_PERCENT)),
+    Then(Read(rule::PREFIX_C)),
+    Then(Build(Close)),
+    Then(Read(rule::PRODUCT_C)),
+    Entry::Alternative,
+    On(STAR_PIPE),
+    Then(Build(Wrap(NodeKind::MultiplySaturate, 1))),
+    Then(Take(STAR_PIPE)),
+    Then(Read(rule::PREFIX_C)),
+    Then(Build(Close)),
+    Then(Read(rule::PRODUCT_C)),
+    Entry::Alternative,
+    On(PIPE_PIPE),
+    Then(Build(Wrap(NodeKind::MergeErrors, 1))),
+    Then(Take(PIPE_PIPE)),
+    Then(Read(rule::PREFIX_C)),
+    Then(Build(Close)),
+    Then(Read(rule::PRODUCT_C)),
+    Entry::Alternative,
+    Entry::Alternative,
+    Entry::Rule(3, true),
+    // PREFIX_C
+    On(BANG),
+    Then(Build(Open(NodeKind::Not, 0))),
+    Then(Take(BANG)),
+    Then(Read(rule::PREFIX_C)),
+    Then(Build(Close)),
+    Entry::Alternative,
+    On(MINUS),
+    Then(Build(Open(NodeKind::Negate, 0))),
+    Then(Take(MINUS)),
+    Then(Read(rule::PREFIX_C)),
+    Then(Build(Close)),
+    Entry::Alternative,
+    On(TILDE),
+    Then(Build(Open(NodeKind::BitNot, 0))),
+    Then(Take(TILDE)),
+    Then(Read(rule::PREFIX_C)),
+    Then(Build(Close)),
+    Entry::Alternative,
+    On(MINUS_PERCENT),
+    Then(Build(Open(NodeKind::NegateWrap, 0))),
+    Then(Take(MINUS_PERCENT)),
+    Then(Read(rule::PREFIX_C)),
+    Then(Build(Close)),
+    Entry::Alternative,
+    On(AMPERSAND),
+    Then(Build(Open(NodeKind::AddressOf, 0))),
+    Then(Take(AMPERSAND)),
+    Then(Read(rule::PREFIX_C)),
+    Then(Build(Close)),
+    Entry::Alternative,
+    On(TRY),
+    Then(Build(Open(NodeKind::Try, 0))),
+    Then(Take(TRY)),
+    Then(Read(rule::PREFIX_C)),
+    Then(Build(Close)),
+    Entry::Alternative,
+    Then(Read(rule::PRIMARY_C)),
+    Entry::Alternative,
+    Entry::Rule(7, false),
+];
 
 // Puts the rules of this part at the end.
 pub(super) fn add(list: &mut Vec<Rule>) -> Result<(), Oom>
     ensures { OnOk result (plain list.new.items ≡ plain list.old.items ++ products_c_rules) }
 {
-    list.extend_from_slice(&RULES)?;
+    add_rules(list, &RULES)?;
     Ok(())
 }

@@ -8,174 +8,98 @@ use crate::terminal::{
     BANG, COMMA, DOT, DOT_DOT, DOT_QUESTION, DOT_STAR, L_BRACKET, L_PAREN, R_BRACKET, R_PAREN,
 };
 use zw_base::Oom;
+use zw_grammar::Entry::{On, Then};
 use zw_grammar::Mark::{Close, Wrap};
 use zw_grammar::Symbol::{Build, Read, Take};
-use zw_grammar::{Alternative, Rule};
+use zw_grammar::{Entry, Rule, add_rules};
 use zw_tree::NodeKind;
 
-const ERROR_UNION: Rule = Rule {
-    alternatives: &[
-        Alternative {
-            first: &[BANG],
-            symbols: &[
-                Build(Wrap(NodeKind::ErrorUnionType, 1)),
-                Take(BANG),
-                Read(rule::TYPE),
-                Build(Close),
-            ],
-        },
-        Alternative {
-            first: &[],
-            symbols: &[],
-        },
-    ],
-    steps: 3,
-    may_be_empty: true,
-};
-
-const SUFFIXES: Rule = Rule {
-    alternatives: &[
-        Alternative {
-            first: &[L_BRACKET],
-            symbols: &[
-                Take(L_BRACKET),
-                Read(rule::EXPR),
-                Read(rule::INDEX_END),
-                Read(rule::SUFFIXES),
-            ],
-        },
-        Alternative {
-            first: &[DOT],
-            symbols: &[
-                Build(Wrap(NodeKind::FieldAccess, 1)),
-                Take(DOT),
-                Read(rule::A_NAME),
-                Build(Close),
-                Read(rule::SUFFIXES),
-            ],
-        },
-        Alternative {
-            first: &[DOT_STAR],
-            symbols: &[
-                Build(Wrap(NodeKind::Dereference, 1)),
-                Take(DOT_STAR),
-                Build(Close),
-                Read(rule::SUFFIXES),
-            ],
-        },
-        Alternative {
-            first: &[DOT_QUESTION],
-            symbols: &[
-                Build(Wrap(NodeKind::Unwrap, 1)),
-                Take(DOT_QUESTION),
-                Build(Close),
-                Read(rule::SUFFIXES),
-            ],
-        },
-        Alternative {
-            first: &[L_PAREN],
-            symbols: &[
-                Build(Wrap(NodeKind::Call, 1)),
-                Take(L_PAREN),
-                Read(rule::ARGUMENTS),
-                Take(R_PAREN),
-                Build(Close),
-                Read(rule::SUFFIXES),
-            ],
-        },
-        Alternative {
-            first: &[],
-            symbols: &[],
-        },
-    ],
-    steps: 3,
-    may_be_empty: true,
-};
-
-const INDEX_END: Rule = Rule {
-    alternatives: &[
-        Alternative {
-            first: &[DOT_DOT],
-            symbols: &[
-                Build(Wrap(NodeKind::Slicing, 2)),
-                Take(DOT_DOT),
-                Read(rule::SLICE_END),
-                Take(R_BRACKET),
-                Build(Close),
-            ],
-        },
-        Alternative {
-            first: &[],
-            symbols: &[
-                Build(Wrap(NodeKind::Index, 2)),
-                Take(R_BRACKET),
-                Build(Close),
-            ],
-        },
-    ],
-    steps: 3,
-    may_be_empty: false,
-};
-
-const SLICE_END: Rule = Rule {
-    alternatives: &[
-        Alternative {
-            first: &[R_BRACKET],
-            symbols: &[],
-        },
-        Alternative {
-            first: &[],
-            symbols: &[Read(rule::EXPR)],
-        },
-    ],
-    steps: 10,
-    may_be_empty: true,
-};
-
-const ARGUMENTS: Rule = Rule {
-    alternatives: &[
-        Alternative {
-            first: &[R_PAREN],
-            symbols: &[],
-        },
-        Alternative {
-            first: &[],
-            symbols: &[Read(rule::EXPR), Read(rule::MORE_ARGUMENTS)],
-        },
-    ],
-    steps: 10,
-    may_be_empty: true,
-};
-
-const MORE_ARGUMENTS: Rule = Rule {
-    alternatives: &[
-        Alternative {
-            first: &[COMMA],
-            symbols: &[Take(COMMA), Read(rule::ARGUMENTS)],
-        },
-        Alternative {
-            first: &[],
-            symbols: &[],
-        },
-    ],
-    steps: 2,
-    may_be_empty: true,
-};
-
 // The rules of this part, in the order of their numbers.
-const RULES: [Rule; 6] = [
-    ERROR_UNION,
-    SUFFIXES,
-    INDEX_END,
-    SLICE_END,
-    ARGUMENTS,
-    MORE_ARGUMENTS,
+const RULES: [Entry; 72] = [
+    // ERROR_UNION
+    On(BANG),
+    Then(Build(Wrap(NodeKind::ErrorUnionType, 1))),
+    Then(Take(BANG)),
+    Then(Read(rule::TYPE)),
+    Then(Build(Close)),
+    Entry::Alternative,
+    Entry::Alternative,
+    Entry::Rule(3, true),
+    // SUFFIXES
+    On(L_BRACKET),
+    Then(Take(L_BRACKET)),
+    Then(Read(rule::EXPR)),
+    Then(Read(rule::INDEX_END)),
+    Then(Read(rule::SUFFIXES)),
+    Entry::Alternative,
+    On(DOT),
+    Then(Build(Wrap(NodeKind::FieldAccess, 1))),
+    Then(Take(DOT)),
+    Then(Read(rule::A_NAME)),
+    Then(Build(Close)),
+    Then(Read(rule::SUFFIXES)),
+    Entry::Alternative,
+    On(DOT_STAR),
+    Then(Build(Wrap(NodeKind::Dereference, 1))),
+    Then(Take(DOT_STAR)),
+    Then(Build(Close)),
+    Then(Read(rule::SUFFIXES)),
+    Entry::Alternative,
+    On(DOT_QUESTION),
+    Then(Build(Wrap(NodeKind::Unwrap, 1))),
+    Then(Take(DOT_QUESTION)),
+    Then(Build(Close)),
+    Then(Read(rule::SUFFIXES)),
+    Entry::Alternative,
+    On(L_PAREN),
+    Then(Build(Wrap(NodeKind::Call, 1))),
+    Then(Take(L_PAREN)),
+    Then(Read(rule::ARGUMENTS)),
+    Then(Take(R_PAREN)),
+    Then(Build(Close)),
+    Then(Read(rule::SUFFIXES)),
+    Entry::Alternative,
+    Entry::Alternative,
+    Entry::Rule(3, true),
+    // INDEX_END
+    On(DOT_DOT),
+    Then(Build(Wrap(NodeKind::Slicing, 2))),
+    Then(Take(DOT_DOT)),
+    Then(Read(rule::SLICE_END)),
+    Then(Take(R_BRACKET)),
+    Then(Build(Close)),
+    Entry::Alternative,
+    Then(Build(Wrap(NodeKind::Index, 2))),
+    Then(Take(R_BRACKET)),
+    Then(Build(Close)),
+    Entry::Alternative,
+    Entry::Rule(3, false),
+    // SLICE_END
+    On(R_BRACKET),
+    Entry::Alternative,
+    Then(Read(rule::EXPR)),
+    Entry::Alternative,
+    Entry::Rule(10, true),
+    // ARGUMENTS
+    On(R_PAREN),
+    Entry::Alternative,
+    Then(Read(rule::EXPR)),
+    Then(Read(rule::MORE_ARGUMENTS)),
+    Entry::Alternative,
+    Entry::Rule(10, true),
+    // MORE_ARGUMENTS
+    On(COMMA),
+    Then(Take(COMMA)),
+    Then(Read(rule::ARGUMENTS)),
+    Entry::Alternative,
+    Entry::Alternative,
+    Entry::Rule(2, true),
 ];
 
 // Puts the rules of this part at the end.
 pub(super) fn add(list: &mut Vec<Rule>) -> Result<(), Oom>
     ensures { OnOk result (plain list.new.items ≡ plain list.old.items ++ suffixes_rules) }
 {
-    list.extend_from_slice(&RULES)?;
+    add_rules(list, &RULES)?;
     Ok(())
 }

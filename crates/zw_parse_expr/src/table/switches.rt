@@ -8,165 +8,92 @@ use crate::terminal::{
     ARROW, COMMA, DOT_DOT_DOT, ELSE, L_BRACE, L_PAREN, R_BRACE, R_PAREN, SWITCH,
 };
 use zw_base::Oom;
+use zw_grammar::Entry::{On, Then};
 use zw_grammar::Mark::{Close, Open, Wrap};
 use zw_grammar::Symbol::{Build, Read, Take};
-use zw_grammar::{Alternative, Rule};
+use zw_grammar::{Entry, Rule, add_rules};
 use zw_tree::NodeKind;
 
-const SWITCH_FORM: Rule = Rule {
-    alternatives: &[Alternative {
-        first: &[],
-        symbols: &[
-            Build(Open(NodeKind::Switch, 0)),
-            Take(SWITCH),
-            Take(L_PAREN),
-            Read(rule::EXPR),
-            Take(R_PAREN),
-            Take(L_BRACE),
-            Read(rule::PRONGS),
-            Take(R_BRACE),
-            Build(Close),
-        ],
-    }],
-    steps: 3,
-    may_be_empty: false,
-};
-
-const PRONGS: Rule = Rule {
-    alternatives: &[
-        Alternative {
-            first: &[R_BRACE],
-            symbols: &[],
-        },
-        Alternative {
-            first: &[],
-            symbols: &[Read(rule::PRONG), Read(rule::MORE_PRONGS)],
-        },
-    ],
-    steps: 13,
-    may_be_empty: true,
-};
-
-const MORE_PRONGS: Rule = Rule {
-    alternatives: &[
-        Alternative {
-            first: &[COMMA],
-            symbols: &[Take(COMMA), Read(rule::PRONGS)],
-        },
-        Alternative {
-            first: &[],
-            symbols: &[],
-        },
-    ],
-    steps: 2,
-    may_be_empty: true,
-};
-
-const PRONG: Rule = Rule {
-    alternatives: &[
-        Alternative {
-            first: &[ELSE],
-            symbols: &[
-                Build(Open(NodeKind::ElseProng, 0)),
-                Take(ELSE),
-                Take(ARROW),
-                Read(rule::CAPTURE),
-                Read(rule::ASSIGN),
-                Build(Close),
-            ],
-        },
-        Alternative {
-            first: &[],
-            symbols: &[
-                Build(Open(NodeKind::Prong, 0)),
-                Read(rule::CASE),
-                Read(rule::MORE_CASES),
-                Take(ARROW),
-                Read(rule::CAPTURE),
-                Read(rule::ASSIGN),
-                Build(Close),
-            ],
-        },
-    ],
-    steps: 12,
-    may_be_empty: false,
-};
-
-const CASE: Rule = Rule {
-    alternatives: &[Alternative {
-        first: &[],
-        symbols: &[Read(rule::EXPR), Read(rule::CASE_END)],
-    }],
-    steps: 10,
-    may_be_empty: false,
-};
-
-const CASE_END: Rule = Rule {
-    alternatives: &[
-        Alternative {
-            first: &[DOT_DOT_DOT],
-            symbols: &[
-                Build(Wrap(NodeKind::CaseRange, 1)),
-                Take(DOT_DOT_DOT),
-                Read(rule::EXPR),
-                Build(Close),
-            ],
-        },
-        Alternative {
-            first: &[],
-            symbols: &[],
-        },
-    ],
-    steps: 3,
-    may_be_empty: true,
-};
-
-const MORE_CASES: Rule = Rule {
-    alternatives: &[
-        Alternative {
-            first: &[COMMA],
-            symbols: &[Take(COMMA), Read(rule::NEXT_CASE)],
-        },
-        Alternative {
-            first: &[],
-            symbols: &[],
-        },
-    ],
-    steps: 2,
-    may_be_empty: true,
-};
-
-const NEXT_CASE: Rule = Rule {
-    alternatives: &[
-        Alternative {
-            first: &[ARROW],
-            symbols: &[],
-        },
-        Alternative {
-            first: &[],
-            symbols: &[Read(rule::CASE), Read(rule::MORE_CASES)],
-        },
-    ],
-    steps: 11,
-    may_be_empty: true,
-};
-
 // The rules of this part, in the order of their numbers.
-const RULES: [Rule; 8] = [
-    SWITCH_FORM,
-    PRONGS,
-    MORE_PRONGS,
-    PRONG,
-    CASE,
-    CASE_END,
-    MORE_CASES,
-    NEXT_CASE,
+const RULES: [Entry; 64] = [
+    // SWITCH_FORM
+    Then(Build(Open(NodeKind::Switch, 0))),
+    Then(Take(SWITCH)),
+    Then(Take(L_PAREN)),
+    Then(Read(rule::EXPR)),
+    Then(Take(R_PAREN)),
+    Then(Take(L_BRACE)),
+    Then(Read(rule::PRONGS)),
+    Then(Take(R_BRACE)),
+    Then(Build(Close)),
+    Entry::Alternative,
+    Entry::Rule(3, false),
+    // PRONGS
+    On(R_BRACE),
+    Entry::Alternative,
+    Then(Read(rule::PRONG)),
+    Then(Read(rule::MORE_PRONGS)),
+    Entry::Alternative,
+    Entry::Rule(13, true),
+    // MORE_PRONGS
+    On(COMMA),
+    Then(Take(COMMA)),
+    Then(Read(rule::PRONGS)),
+    Entry::Alternative,
+    Entry::Alternative,
+    Entry::Rule(2, true),
+    // PRONG
+    On(ELSE),
+    Then(Build(Open(NodeKind::ElseProng, 0))),
+    Then(Take(ELSE)),
+    Then(Take(ARROW)),
+    Then(Read(rule::CAPTURE)),
+    Then(Read(rule::ASSIGN)),
+    Then(Build(Close)),
+    Entry::Alternative,
+    Then(Build(Open(NodeKind::Prong, 0))),
+    Then(Read(rule::CASE)),
+    Then(Read(rule::MORE_CASES)),
+    Then(Take(ARROW)),
+    Then(Read(rule::CAPTURE)),
+    Then(Read(rule::ASSIGN)),
+    Then(Build(Close)),
+    Entry::Alternative,
+    Entry::Rule(12, false),
+    // CASE
+    Then(Read(rule::EXPR)),
+    Then(Read(rule::CASE_END)),
+    Entry::Alternative,
+    Entry::Rule(10, false),
+    // CASE_END
+    On(DOT_DOT_DOT),
+    Then(Build(Wrap(NodeKind::CaseRange, 1))),
+    Then(Take(DOT_DOT_DOT)),
+    Then(Read(rule::EXPR)),
+    Then(Build(Close)),
+    Entry::Alternative,
+    Entry::Alternative,
+    Entry::Rule(3, true),
+    // MORE_CASES
+    On(COMMA),
+    Then(Take(COMMA)),
+    Then(Read(rule::NEXT_CASE)),
+    Entry::Alternative,
+    Entry::Alternative,
+    Entry::Rule(2, true),
+    // NEXT_CASE
+    On(ARROW),
+    Entry::Alternative,
+    Then(Read(rule::CASE)),
+    Then(Read(rule::MORE_CASES)),
+    Entry::Alternative,
+    Entry::Rule(11, true),
 ];
 
 // Puts the rules of this part at the end.
 pub(super) fn add(list: &mut Vec<Rule>) -> Result<(), Oom>
     ensures { OnOk result (plain list.new.items ≡ plain list.old.items ++ switches_rules) }
 {
-    list.extend_from_slice(&RULES)?;
+    add_rules(list, &RULES)?;
     Ok(())
 }

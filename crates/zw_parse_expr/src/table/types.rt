@@ -3,181 +3,132 @@ ghost use Rattle.std.specs.Prelude.{◌≡◌, ◌++◌, OnOk};
 ghost use Rattle.zw_grammar.specs.Plain.{plain};
 ghost use Rattle.zw_parse_expr.specs.Types.{types_rules};
 
-use super::COLONS;
 use crate::rule;
-use crate::terminal::{L_BRACKET, QUESTION, R_BRACKET, STAR, STAR_STAR};
+use crate::terminal::{
+    COLON, COLON_NAME, COLON_TARGET, L_BRACKET, QUESTION, R_BRACKET, STAR, STAR_STAR,
+};
 use zw_base::Oom;
+use zw_grammar::Entry::{On, Then};
 use zw_grammar::Mark::{Close, Enter, Leave, Open};
 use zw_grammar::Symbol::{Build, Read, Take};
-use zw_grammar::{Alternative, Rule};
+use zw_grammar::{Entry, Rule, add_rules};
 use zw_tree::NodeKind;
 
-const TYPE: Rule = Rule {
-    alternatives: &[Alternative {
-        first: &[],
-        symbols: &[Build(Enter(0)), Read(rule::TYPE_BODY), Build(Leave)],
-    }],
-    steps: 7,
-    may_be_empty: false,
-};
-
-const TYPE_BODY: Rule = Rule {
-    alternatives: &[
-        Alternative {
-            first: &[QUESTION],
-            symbols: &[
-                Build(Open(NodeKind::OptionalType, 0)),
-                Take(QUESTION),
-                Read(rule::TYPE_BODY),
-                Build(Close),
-            ],
-        },
-        Alternative {
-            first: &[STAR],
-            symbols: &[
-                Build(Open(NodeKind::PointerType, 0)),
-                Take(STAR),
-                Read(rule::CONST_WORD),
-                Read(rule::TYPE_BODY),
-                Build(Close),
-            ],
-        },
-        Alternative {
-            first: &[STAR_STAR],
-            symbols: &[
-                Build(Open(NodeKind::PointerType, 0)),
-                Build(Open(NodeKind::PointerType, 0)),
-                Take(STAR_STAR),
-                Read(rule::CONST_WORD),
-                Read(rule::TYPE_BODY),
-                Build(Close),
-                Build(Close),
-            ],
-        },
-        Alternative {
-            first: &[L_BRACKET],
-            symbols: &[Take(L_BRACKET), Read(rule::BRACKET)],
-        },
-        Alternative {
-            first: &[],
-            symbols: &[
-                Read(rule::ATOM),
-                Read(rule::SUFFIXES),
-                Read(rule::ERROR_UNION),
-            ],
-        },
-    ],
-    steps: 5,
-    may_be_empty: false,
-};
-
-const BRACKET: Rule = Rule {
-    alternatives: &[
-        Alternative {
-            first: &[STAR],
-            symbols: &[Take(STAR), Read(rule::BRACKET_STAR)],
-        },
-        Alternative {
-            first: &[R_BRACKET],
-            symbols: &[
-                Build(Open(NodeKind::SliceType, 1)),
-                Take(R_BRACKET),
-                Read(rule::CONST_WORD),
-                Read(rule::TYPE_BODY),
-                Build(Close),
-            ],
-        },
-        Alternative {
-            first: &COLONS,
-            symbols: &[
-                Build(Open(NodeKind::SliceType, 1)),
-                Read(rule::ANY_COLON),
-                Read(rule::EXPR),
-                Take(R_BRACKET),
-                Read(rule::CONST_WORD),
-                Read(rule::TYPE_BODY),
-                Build(Close),
-            ],
-        },
-        Alternative {
-            first: &[],
-            symbols: &[
-                Build(Open(NodeKind::ArrayType, 1)),
-                Read(rule::EXPR_C),
-                Read(rule::SENTINEL),
-                Take(R_BRACKET),
-                Read(rule::TYPE_BODY),
-                Build(Close),
-            ],
-        },
-    ],
-    steps: 11,
-    may_be_empty: false,
-};
-
-const BRACKET_STAR: Rule = Rule {
-    alternatives: &[
-        Alternative {
-            first: &[R_BRACKET],
-            symbols: &[
-                Build(Open(NodeKind::ManyPointerType, 2)),
-                Take(R_BRACKET),
-                Read(rule::CONST_WORD),
-                Read(rule::TYPE_BODY),
-                Build(Close),
-            ],
-        },
-        Alternative {
-            first: &[],
-            symbols: &[
-                Build(Open(NodeKind::ArrayType, 2)),
-                Build(Enter(1)),
-                Build(Open(NodeKind::PointerType, 1)),
-                Read(rule::CONST_WORD),
-                Read(rule::TYPE_BODY),
-                Build(Close),
-                Read(rule::INIT),
-                Read(rule::PRODUCT_C),
-                Read(rule::SUM_C),
-                Read(rule::SHIFT_C),
-                Read(rule::BITS_C),
-                Read(rule::COMPARE_C),
-                Read(rule::CONJUNCTION_C),
-                Read(rule::DISJUNCTION_C),
-                Build(Leave),
-                Read(rule::SENTINEL),
-                Take(R_BRACKET),
-                Read(rule::TYPE_BODY),
-                Build(Close),
-            ],
-        },
-    ],
-    steps: 12,
-    may_be_empty: false,
-};
-
-const SENTINEL: Rule = Rule {
-    alternatives: &[
-        Alternative {
-            first: &COLONS,
-            symbols: &[Read(rule::ANY_COLON), Read(rule::EXPR)],
-        },
-        Alternative {
-            first: &[],
-            symbols: &[],
-        },
-    ],
-    steps: 3,
-    may_be_empty: true,
-};
-
 // The rules of this part, in the order of their numbers.
-const RULES: [Rule; 5] = [TYPE, TYPE_BODY, BRACKET, BRACKET_STAR, SENTINEL];
+const RULES: [Entry; 102] = [
+    // TYPE
+    Then(Build(Enter(0))),
+    Then(Read(rule::TYPE_BODY)),
+    Then(Build(Leave)),
+    Entry::Alternative,
+    Entry::Rule(7, false),
+    // TYPE_BODY
+    On(QUESTION),
+    Then(Build(Open(NodeKind::OptionalType, 0))),
+    Then(Take(QUESTION)),
+    Then(Read(rule::TYPE_BODY)),
+    Then(Build(Close)),
+    Entry::Alternative,
+    On(STAR),
+    Then(Build(Open(NodeKind::PointerType, 0))),
+    Then(Take(STAR)),
+    Then(Read(rule::CONST_WORD)),
+    Then(Read(rule::TYPE_BODY)),
+    Then(Build(Close)),
+    Entry::Alternative,
+    On(STAR_STAR),
+    Then(Build(Open(NodeKind::PointerType, 0))),
+    Then(Build(Open(NodeKind::PointerType, 0))),
+    Then(Take(STAR_STAR)),
+    Then(Read(rule::CONST_WORD)),
+    Then(Read(rule::TYPE_BODY)),
+    Then(Build(Close)),
+    Then(Build(Close)),
+    Entry::Alternative,
+    On(L_BRACKET),
+    Then(Take(L_BRACKET)),
+    Then(Read(rule::BRACKET)),
+    Entry::Alternative,
+    Then(Read(rule::ATOM)),
+    Then(Read(rule::SUFFIXES)),
+    Then(Read(rule::ERROR_UNION)),
+    Entry::Alternative,
+    Entry::Rule(5, false),
+    // BRACKET
+    On(STAR),
+    Then(Take(STAR)),
+    Then(Read(rule::BRACKET_STAR)),
+    Entry::Alternative,
+    On(R_BRACKET),
+    Then(Build(Open(NodeKind::SliceType, 1))),
+    Then(Take(R_BRACKET)),
+    Then(Read(rule::CONST_WORD)),
+    Then(Read(rule::TYPE_BODY)),
+    Then(Build(Close)),
+    Entry::Alternative,
+    On(COLON),
+    On(COLON_TARGET),
+    On(COLON_NAME),
+    Then(Build(Open(NodeKind::SliceType, 1))),
+    Then(Read(rule::ANY_COLON)),
+    Then(Read(rule::EXPR)),
+    Then(Take(R_BRACKET)),
+    Then(Read(rule::CONST_WORD)),
+    Then(Read(rule::TYPE_BODY)),
+    Then(Build(Close)),
+    Entry::Alternative,
+    Then(Build(Open(NodeKind::ArrayType, 1))),
+    Then(Read(rule::EXPR_C)),
+    Then(Read(rule::SENTINEL)),
+    Then(Take(R_BRACKET)),
+    Then(Read(rule::TYPE_BODY)),
+    Then(Build(Close)),
+    Entry::Alternative,
+    Entry::Rule(11, false),
+    // BRACKET_STAR
+    On(R_BRACKET),
+    Then(Build(Open(NodeKind::ManyPointerType, 2))),
+    Then(Take(R_BRACKET)),
+    Then(Read(rule::CONST_WORD)),
+    Then(Read(rule::TYPE_BODY)),
+    Then(Build(Close)),
+    Entry::Alternative,
+    Then(Build(Open(NodeKind::ArrayType, 2))),
+    Then(Build(Enter(1))),
+    Then(Build(Open(NodeKind::PointerType, 1))),
+    Then(Read(rule::CONST_WORD)),
+    Then(Read(rule::TYPE_BODY)),
+    Then(Build(Close)),
+    Then(Read(rule::INIT)),
+    Then(Read(rule::PRODUCT_C)),
+    Then(Read(rule::SUM_C)),
+    Then(Read(rule::SHIFT_C)),
+    Then(Read(rule::BITS_C)),
+    Then(Read(rule::COMPARE_C)),
+    Then(Read(rule::CONJUNCTION_C)),
+    Then(Read(rule::DISJUNCTION_C)),
+    Then(Build(Leave)),
+    Then(Read(rule::SENTINEL)),
+    Then(Take(R_BRACKET)),
+    Then(Read(rule::TYPE_BODY)),
+    Then(Build(Close)),
+    Entry::Alternative,
+    Entry::Rule(12, false),
+    // SENTINEL
+    On(COLON),
+    On(COLON_TARGET),
+    On(COLON_NAME),
+    Then(Read(rule::ANY_COLON)),
+    Then(Read(rule::EXPR)),
+    Entry::Alternative,
+    Entry::Alternative,
+    Entry::Rule(3, true),
+];
 
 // Puts the rules of this part at the end.
 pub(super) fn add(list: &mut Vec<Rule>) -> Result<(), Oom>
     ensures { OnOk result (plain list.new.items ≡ plain list.old.items ++ types_rules) }
 {
-    list.extend_from_slice(&RULES)?;
+    add_rules(list, &RULES)?;
     Ok(())
 }
