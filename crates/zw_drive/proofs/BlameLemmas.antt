@@ -16,7 +16,7 @@ OneOf own status = (status ≡ own) ⊎ (status ≡ 10) ⊎ (status ≡ 11)
 
 pub said_code : (own : Status) (line : List ℕ) (before after : Option (List ℕ)) (status : Status) → Says own line before after status → OneOf (code_of own) (code_of status)
 said_code own line before after status says =
-    elim says.ends [ inl h ↦ inl (ap code_of h.1) | inr h ↦ elim h.1 [ inl e ↦ inr (inl (ap code_of e)) | inr e ↦ inr (inr (ap code_of e)) ] ]
+    elim says.ends [ inl h ↦ inl (ap code_of h.1) | inr h ↦ elim h.1 [ inl e ↦ inr (inl (ap code_of e.0)) | inr e ↦ inr (inr (ap code_of e)) ] ]
 
 -- an object whose count stayed
 pub unblamed : (before now status code : ℕ) → now ≡ before → (status ≡ code → ⊥) → IsBlamed before now status code (10 ∷ 11 ∷ [])

@@ -1,8 +1,8 @@
--- No two statuses and no two lines are due for the same words and files.
-use Rattle.std.proofs.Common.{◌≡◌, ℕ, List, Option, Some, None, Result, Ok, Err, sym, ◌∙◌, subst, inl, inr}
+-- No two statuses and no two lines are due for the same words and files, and no two outputs but for a build.
+use Rattle.std.proofs.Common.{◌≡◌, ℕ, List, [], Option, Some, None, Result, Ok, Err, sym, ◌∙◌, subst, inl, inr}
 use Rattle.zw_base.specs.declared.files.Handed.{Handed}
 use Rattle.zw_base.specs.declared.stop.Stop.{Stop}
-use Rattle.zw_drive.specs.Commands.{CommandLine, Check, Build, Validate, Exec}
+use Rattle.zw_drive.specs.Commands.{Asks, CommandLine, Check, Build, Validate, Exec, command_of}
 use Rattle.zw_drive.specs.Due.{IsBuildDue, IsCheckDue, IsCommandDue, IsDue, IsEndDue, IsModule, IsStop, IsStopDue, IsTreeDue, TreeDue}
 use Rattle.zw_drive.specs.Inputs.{Reading}
 use Rattle.zw_files.specs.Discovery.{Found, Located, root_text}
@@ -68,11 +68,43 @@ one_command : (asked : Option CommandLine) (files : List Handed) (reading : Read
 one_command None files reading s t out out' line line' h k = (h.1.status_is ∙ sym k.1.status_is, h.1.line_is ∙ sym k.1.line_is)
 one_command (Some (Check root)) files reading s t out out' line line' h k = one_tree_due IsCheckDue one_check root files s t out out' line line' h.1 k.1
 one_command (Some (Build root)) files reading s t out out' line line' h k = one_tree_due IsBuildDue one_build root files s t out out' line line' h.1 k.1
-one_command (Some (Validate file)) files reading s t out out' line line' h k = one_validate file files s t out out' line line' h.1 k.1
-one_command (Some (Exec request)) files reading s t out out' line line' h k = one_exec request files reading s t out out' line line' h k
+one_command (Some (Validate file)) files reading s t out out' line line' h k =
+    let same = one_validate file files s t out out' line line' h.1 k.1 in (same.0, same.2)
+one_command (Some (Exec request)) files reading s t out out' line line' h k =
+    let same = one_exec request files reading s t out out' line line' h k in (same.0, same.2)
 
 -- for the same words, files and input
 pub one_due_lem : (words : List (List ℕ)) (files : List Handed) (reading : Reading) (s t : ℕ) (out out' line line' : List ℕ) → IsDue words files reading s out line → IsDue words files reading t out' line' → IsSame s t line line'
 one_due_lem words files reading s t out out' line line' h k =
     one_command h.asked files reading s t out out' line line' h.due
+    (subst (λ (asked : Option CommandLine). IsCommandDue asked files reading t out' line') (one_asked words k.asked h.asked k.asks h.asks) k.due)
+
+-- ---- outputs
+
+-- nothing goes to the output where a tree is checked
+check_unwritten : (root text : List ℕ) (s : ℕ) (out line : List ℕ) → IsCheckDue root text s out line → out ≡ []
+check_unwritten root text s out line (inl h) = h.1.out_is
+check_unwritten root text s out line (inr h) = h.2.out_is
+
+end_unwritten : (root : List ℕ) (end : Result Found Located) (s : ℕ) (out line : List ℕ) → IsEndDue IsCheckDue root end s out line → out ≡ []
+end_unwritten root (Ok found) s out line h = check_unwritten root (root_text found) s out line h
+end_unwritten root (Err (stop, path)) s out line h = h.out_is
+
+tree_unwritten : (root : List ℕ) (files : List Handed) (s : ℕ) (out line : List ℕ) → IsTreeDue IsCheckDue root files s out line → out ≡ []
+tree_unwritten root files s out line h = end_unwritten root h.end s out line h.end_due
+
+-- the words don't ask for a build
+abbrev Unbuilt : List (List ℕ) → Type 0
+Unbuilt words = (root : List ℕ) → command_of words ≡ Some (Build root) → ⊥
+
+command_output : (words : List (List ℕ)) (asked : Option CommandLine) (files : List Handed) (reading : Reading) (s t : ℕ) (out out' line line' : List ℕ) → Unbuilt words → Asks words asked → IsCommandDue asked files reading s out line → IsCommandDue asked files reading t out' line' → out ≡ out'
+command_output words None files reading s t out out' line line' unbuilt asks h k = h.1.out_is ∙ sym k.1.out_is
+command_output words (Some (Check root)) files reading s t out out' line line' unbuilt asks h k = tree_unwritten root files s out line h.1 ∙ sym (tree_unwritten root files t out' line' k.1)
+command_output words (Some (Build root)) files reading s t out out' line line' unbuilt asks h k = absurd (unbuilt root asks)
+command_output words (Some (Validate file)) files reading s t out out' line line' unbuilt asks h k = (one_validate file files s t out out' line line' h.1 k.1).1
+command_output words (Some (Exec request)) files reading s t out out' line line' unbuilt asks h k = (one_exec request files reading s t out out' line line' h k).1
+
+pub one_output : (words : List (List ℕ)) (files : List Handed) (reading : Reading) (s t : ℕ) (out out' line line' : List ℕ) → ((root : List ℕ) → command_of words ≡ Some (Build root) → ⊥) → IsDue words files reading s out line → IsDue words files reading t out' line' → out ≡ out'
+one_output words files reading s t out out' line line' unbuilt h k =
+    command_output words h.asked files reading s t out out' line line' unbuilt h.asks h.due
     (subst (λ (asked : Option CommandLine). IsCommandDue asked files reading t out' line') (one_asked words k.asked h.asked k.asks h.asks) k.due)

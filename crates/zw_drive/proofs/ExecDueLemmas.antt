@@ -1,4 +1,4 @@
--- No two statuses and no two lines are due for running calls of the same file with the same input.
+-- No two statuses, outputs and lines are due for running calls of the same file with the same input.
 use Rattle.std.proofs.Common.{◌≡◌, ◌⊎◌, ℕ, ◌<◌, ◌≤◌, List, [], ◌∷◌, length, Option, Some, None, Result, Ok, Err, refl, sym, ◌∙◌, ap, subst, inl, inr, arith}
 use Rattle.std.specs.Str.Lines.{lines}
 use Rattle.zw_base.specs.declared.files.Answer.{Answer}
@@ -113,48 +113,48 @@ too_long n h k = absurd (omega arith)
 
 module _ (m : Module) (request : Request) (calls : List SessionCall) (reading : Reading) (s t : ℕ) (out out' line line' : List ℕ) where
   abbrev Same : Type 0
-  Same = IsSame s t line line'
+  Same = IsSame s t out out' line line'
 
   one_replies : (a b : Result (List ℕ) ReplyErr) → AreReplies reading.bytes a → AreReplies reading.bytes b → AreRepliesDue m request calls a reading s out line → AreRepliesDue m request calls b reading t out' line' → Same
   one_replies (Ok a) (Ok b) g f h k =
       let same : a ≡ b = g.2 ∙ sym f.2 in
       let moved : AreRepliesDue m request calls (Ok a) reading t out' line' = subst (λ (x : List ℕ). AreRepliesDue m request calls (Ok x) reading t out' line') (sym same) k in
-      (h.status_is ∙ sym moved.status_is, h.line_is ∙ sym moved.line_is)
+      (h.status_is ∙ sym moved.status_is, h.out_is ∙ sym moved.out_is, h.line_is ∙ sym moved.line_is)
   one_replies (Ok a) (Err (reply.BadLine n)) g f h k = absurd (unfound (first_bad (lines reading.bytes)) n f.1 g.1)
   one_replies (Ok a) (Err reply.TooLong) g f h k = too_long (length reading.bytes) g.0 f
   one_replies (Ok a) (Err reply.Oom) g f h k = absurd k
   one_replies (Err (reply.BadLine n)) (Ok b) g f h k = absurd (unfound (first_bad (lines reading.bytes)) n g.1 f.1)
   one_replies (Err (reply.BadLine n)) (Err (reply.BadLine l)) g f h k =
       let same : n ≡ l = same_line n l (first_bad (lines reading.bytes)) g.1 f.1 in
-      (h.denied.status_is ∙ sym k.denied.status_is, h.denied.line_is ∙ ap (λ (x : ℕ). denial_line request.path (denial.BadReply x)) same ∙ sym k.denied.line_is)
+      (h.denied.status_is ∙ sym k.denied.status_is, h.denied.out_is ∙ sym k.denied.out_is, h.denied.line_is ∙ ap (λ (x : ℕ). denial_line request.path (denial.BadReply x)) same ∙ sym k.denied.line_is)
   one_replies (Err (reply.BadLine n)) (Err reply.TooLong) g f h k = too_long (length reading.bytes) g.0 f
   one_replies (Err (reply.BadLine n)) (Err reply.Oom) g f h k = absurd k
   one_replies (Err reply.TooLong) (Ok b) g f h k = too_long (length reading.bytes) f.0 g
   one_replies (Err reply.TooLong) (Err (reply.BadLine l)) g f h k = too_long (length reading.bytes) f.0 g
-  one_replies (Err reply.TooLong) (Err reply.TooLong) g f h k = (h.status_is ∙ sym k.status_is, h.line_is ∙ sym k.line_is)
+  one_replies (Err reply.TooLong) (Err reply.TooLong) g f h k = (h.status_is ∙ sym k.status_is, h.out_is ∙ sym k.out_is, h.line_is ∙ sym k.line_is)
   one_replies (Err reply.TooLong) (Err reply.Oom) g f h k = absurd k
   one_replies (Err reply.Oom) b g f h k = absurd h
 
   one_input : IsInputDue m request calls reading s out line → IsInputDue m request calls reading t out' line' → Same
   one_input h k = one_replies h.replies k.replies h.gives k.gives h.due k.due
 
-one_at_once : (file : List ℕ) (d : Denial) (reading : Reading) (s t : ℕ) (out out' line line' : List ℕ) → IsDeniedAtOnce file d reading s out line → IsDeniedAtOnce file d reading t out' line' → IsSame s t line line'
-one_at_once file d reading s t out out' line line' h k = (h.denied.status_is ∙ sym k.denied.status_is, h.denied.line_is ∙ sym k.denied.line_is)
+one_at_once : (file : List ℕ) (d : Denial) (reading : Reading) (s t : ℕ) (out out' line line' : List ℕ) → IsDeniedAtOnce file d reading s out line → IsDeniedAtOnce file d reading t out' line' → IsSame s t out out' line line'
+one_at_once file d reading s t out out' line line' h k = (h.denied.status_is ∙ sym k.denied.status_is, h.denied.out_is ∙ sym k.denied.out_is, h.denied.line_is ∙ sym k.denied.line_is)
 
 module _ (request : Request) (reading : Reading) (s t : ℕ) (out out' line line' : List ℕ) where
-  one_calls_due : (m : Module) (r : Result (List SessionCall) Denial) → AreCallsDue m request r reading s out line → AreCallsDue m request r reading t out' line' → IsSame s t line line'
+  one_calls_due : (m : Module) (r : Result (List SessionCall) Denial) → AreCallsDue m request r reading s out line → AreCallsDue m request r reading t out' line' → IsSame s t out out' line line'
   one_calls_due m (Ok calls) h k = one_input m request calls reading s t out out' line line' h k
   one_calls_due m (Err d) h k = one_at_once request.path d reading s t out out' line line' h k
 
-  one_module_due : (m : Module) → IsModuleDue m request reading s out line → IsModuleDue m request reading t out' line' → IsSame s t line line'
+  one_module_due : (m : Module) → IsModuleDue m request reading s out line → IsModuleDue m request reading t out' line' → IsSame s t out out' line line'
   one_module_due m h k =
       one_calls_due m h.calls h.due
       (subst (λ (r : Result (List SessionCall) Denial). AreCallsDue m request r reading t out' line') (one_preparation m.start (first_outside m) m request.calls k.calls h.calls k.prepares h.prepares) k.due)
 
-  one_bytes_due : (bytes : List ℕ) → AreExecBytesDue request bytes reading s out line → AreExecBytesDue request bytes reading t out' line' → IsSame s t line line'
+  one_bytes_due : (bytes : List ℕ) → AreExecBytesDue request bytes reading s out line → AreExecBytesDue request bytes reading t out' line' → IsSame s t out out' line line'
   one_bytes_due bytes h k = chosen h.due k.due
     where
-      chosen : IsRunDue request bytes reading s out line ⊎ IsRefusedDue request bytes reading s out line → IsRunDue request bytes reading t out' line' ⊎ IsRefusedDue request bytes reading t out' line' → IsSame s t line line'
+      chosen : IsRunDue request bytes reading s out line ⊎ IsRefusedDue request bytes reading s out line → IsRunDue request bytes reading t out' line' ⊎ IsRefusedDue request bytes reading t out' line' → IsSame s t out out' line line'
       chosen (inl a) (inl b) = one_module_due a.m a.due (subst (λ (m : Module). IsModuleDue m request reading t out' line') (one_module b.m a.m bytes b.spelled a.spelled) b.due)
       chosen (inl a) (inr b) = absurd (valid_or_refused bytes b.cause (a.m, a.spelled, a.valid) b.refuses)
       chosen (inr a) (inl b) = absurd (valid_or_refused bytes a.cause (b.m, b.spelled, b.valid) a.refuses)
@@ -162,12 +162,12 @@ module _ (request : Request) (reading : Reading) (s t : ℕ) (out out' line line
           one_at_once request.path (denial.File a.cause) reading s t out out' line line' a.denied
           (subst (λ (r : Refusal). IsDeniedAtOnce request.path (denial.File r) reading t out' line') (one_refusal bytes b.cause a.cause b.refuses a.refuses) b.denied)
 
-  one_file_due : (answer : Answer) → IsExecFileDue request answer reading s out line → IsExecFileDue request answer reading t out' line' → IsSame s t line line'
+  one_file_due : (answer : Answer) → IsExecFileDue request answer reading s out line → IsExecFileDue request answer reading t out' line' → IsSame s t out out' line line'
   one_file_due answers.Absent h k = one_at_once request.path _ reading s t out out' line line' h k
-  one_file_due answers.TooLong h k = one_at_once request.path _ reading s t out out' line line' h k
+  one_file_due (answers.TooLong limit) h k = one_at_once request.path _ reading s t out out' line line' h.1 k.1
   one_file_due (answers.Bytes bytes) h k = one_bytes_due bytes h k
 
-pub one_exec : (request : Request) (files : List Handed) (reading : Reading) (s t : ℕ) (out out' line line' : List ℕ) → IsExecDue request files reading s out line → IsExecDue request files reading t out' line' → IsSame s t line line'
+pub one_exec : (request : Request) (files : List Handed) (reading : Reading) (s t : ℕ) (out out' line line' : List ℕ) → IsExecDue request files reading s out line → IsExecDue request files reading t out' line' → IsSame s t out out' line line'
 one_exec request files reading s t out out' line line' h k =
     let same : k.answer ≡ h.answer = ap (λ (pairs : List Handed). first_of pairs h.answer) (sym k.files_are ∙ h.files_are) in
     one_file_due request reading s t out out' line line' h.answer h.due

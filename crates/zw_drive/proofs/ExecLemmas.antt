@@ -154,7 +154,7 @@ bytes_called m request bytes old new before after r fits is w =
     runs_whole (ModuleEnds m request r) (BytesEnd request bytes r) old new before after
     (λ reading out h. ends_whole (IsModuleDue m request reading) (AreExecBytesDue request bytes reading) request.path ⊥ ⊥ (CanBeCalled m request) (AreReady request bytes) (Unit {0}) (Unit {0})
     (λ status text line due. record { fits = fits; due = inl (record { m = m; spelled = is.0; valid = is.1; due = due }) })
-    (λ x. x) (λ x. record { m = m; spelled = is.0; valid = is.1; calls = x.0; prepares = x.1 }) (λ x. x) out r h)
+    (λ x. x) (λ x. record { fits = fits; m = m; spelled = is.0; valid = is.1; calls = x.0; prepares = x.1 }) (λ x. x) out r h)
     w
 
 pub bytes_refused : (request : Request) (bytes : List ℕ) (left taken : Option (List ℕ)) (e : ValidateErr) → length bytes ≤ MODULE_LIMIT → Judges bytes (Err e) → Runs (BytesEnd request bytes (Err (judged_end e))) left left taken taken
@@ -179,7 +179,7 @@ file_called request loaded now bytes old new before after r adds w =
       runs = runs_whole (BytesEnd request bytes r) (FileEnds request files r) old new before after
           (λ reading out h. ends_whole (AreExecBytesDue request bytes reading) (IsExecDue request files reading) request.path ⊥ (IsUnread reading × (files ≡ [])) (AreReady request bytes) (IsReady request files) (Unit {0}) (IsFileAtMost request.path files)
           (λ status text line due. record { answer = answers.Bytes bytes; files_are = refl; due = due })
-          (λ x. absurd x) (λ x. record { bytes = bytes; files_are = refl; ready = x }) (λ x. inr (answers.Bytes bytes, refl)) out r h)
+          (λ x. absurd x) (λ x. record { bytes = bytes; files_are = refl; ready = x }) (λ x. inr (answers.Bytes bytes, refl, adds.1)) out r h)
           w;
     }
 
@@ -188,9 +188,9 @@ absent_due : (request : Request) (answer : Answer) (r : Refusal) (left : Option 
 absent_due request answers.Absent r left h =
     subst (λ (q : Refusal). FileEnds request (pair_of request.path answers.Absent) (Err (exec.Denied (denial.File q))) (record { bytes = []; left = left }) []) (sym h)
     (refl, record { answer = answers.Absent; files_are = refl; due = record { unread = refl; denied = record { status_is = refl; out_is = refl; line_is = refl } } })
-absent_due request answers.TooLong r left h =
-    subst (λ (q : Refusal). FileEnds request (pair_of request.path answers.TooLong) (Err (exec.Denied (denial.File q))) (record { bytes = []; left = left }) []) (sym h)
-    (refl, record { answer = answers.TooLong; files_are = refl; due = record { unread = refl; denied = record { status_is = refl; out_is = refl; line_is = refl } } })
+absent_due request (answers.TooLong limit) r left h =
+    subst (λ (q : Refusal). FileEnds request (pair_of request.path (answers.TooLong limit)) (Err (exec.Denied (denial.File q))) (record { bytes = []; left = left }) []) (sym h.1)
+    (refl, record { answer = answers.TooLong limit; files_are = refl; due = (h.0, record { unread = refl; denied = record { status_is = refl; out_is = refl; line_is = refl } }) })
 absent_due request (answers.Bytes bytes) r left h = absurd h
 
 pub file_unloaded : (request : Request) (loaded now : List Handed) (left taken : Option (List ℕ)) (e : ValidateErr) → FileLoads request.path loaded now (Err e) → RunsFile request loaded now left left taken taken (Err (judged_end e))

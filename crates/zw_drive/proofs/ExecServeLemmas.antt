@@ -80,13 +80,13 @@ module _ (words : List (List ℕ)) (request : Request) (asks : Asks words (Some 
   told (Err exec.Oom) status h says = (
     [],
     silent statuses.OutOfMemory status says,
-    inr (record {
-      status_is = inr (ap code_of says.own_status);
+    inr (inr (record {
+      status_is = ap code_of says.own_status;
       written = elim h [
         | inl e ↦ inl (e.0, refl, inr (Some (Exec request), asks, e.1))
         | inr c ↦ inr (c.status, c.text, [], inl (due_words c.status c.text [] c.is_due), c.front, front_all [])
       ];
-    }),
+    })),
   )
 
 pub serves_exec : (words : List (List ℕ)) (request : Request) (old new : List Handed) (left now out_before out_after before after : Option (List ℕ)) (r : Result SessionEnd ExecErr) (status : Status) → Asks words (Some (Exec request)) → RunsFile request old new left now out_before out_after r → ReportsExec request.path r before after status → Serves words old new left now out_before out_after before after (code_of status)

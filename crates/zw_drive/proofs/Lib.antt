@@ -7,6 +7,7 @@ mod ExecDueLemmas
 mod ExecLemmas
 mod ExecServeLemmas
 mod FoundLemmas
+mod LineLemmas
 mod NamedLemmas
 mod PrepareLemmas
 mod ReadLemmas

@@ -71,7 +71,10 @@ stop_in (Err l) other = l.0
 
 read_named : (number : ℕ) (place : Place) (before : ℕ) (answer : Answer) (s : Stop) → ReadsAnswer number place before answer (Err s) → IsNamed s.kind
 read_named number place before Absent s h = let same : s ≡ stop FILE_ABSENT place = cc in subst (λ (t : Stop). IsNamed t.kind) (sym same) (lit≤ tt, lit≤ tt)
-read_named number place before TooLong s h = let same : s ≡ stop FILE_LENGTH place = cc in subst (λ (t : Stop). IsNamed t.kind) (sym same) (lit≤ tt, lit≤ tt)
+read_named number place before (TooLong limit) s h =
+    let cause : told s ≡ told (stop FILE_LENGTH place) = h.1 in
+    let same : s ≡ stop FILE_LENGTH place = cc in
+    subst (λ (t : Stop). IsNamed t.kind) (sym same) (lit≤ tt, lit≤ tt)
 read_named number place before (Bytes text) s h = by (nat_lt TREE_LIMIT (before + length text)) h.1
   where
     by : (b : Bool) → MatchBool b (told s ≡ told (stop TREE_LENGTH place)) (Reads number text (Err s)) → IsNamed s.kind

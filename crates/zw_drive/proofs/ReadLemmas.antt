@@ -56,7 +56,7 @@ module _ (request : Request) (reading : Reading) (end : SessionEnd) (status : �
 
   file_read : (answer : Answer) → IsExecFileDue request answer reading status out line → IsAtEnd reading.left
   file_read answers.Absent h = denied_read (denial.File refusal.Absent) h.denied.status_is
-  file_read answers.TooLong h = denied_read (denial.File refusal.TooLong) h.denied.status_is
+  file_read (answers.TooLong limit) h = denied_read (denial.File refusal.TooLong) h.1.denied.status_is
   file_read (answers.Bytes bytes) h = chosen h.due
     where
       chosen : IsRunDue request bytes reading status out line ⊎ IsRefusedDue request bytes reading status out line → IsAtEnd reading.left
@@ -78,7 +78,8 @@ module _ (words : List (List ℕ)) (files : List Handed) (reading : Reading) (st
 
   ends_read : Ends words files reading status out line → IsAtEnd reading.left
   ends_read (inl h) = whole_read h
-  ends_read (inr h) = elim h.status_is [ inl e ↦ no_status (inr (inr (inr (inl e)))) | inr e ↦ no_status (inr (inr (inr (inr e)))) ]
+  ends_read (inr (inl h)) = no_status (inr (inr (inr (inl h.status_is))))
+  ends_read (inr (inr h)) = no_status (inr (inr (inr (inr h.status_is))))
 
 pub all_read : (words : List (List ℕ)) (old new : List Handed) (left now out_before out_after before after : Option (List ℕ)) (status : ℕ) → Serves words old new left now out_before out_after before after status → RanSession words status → IsAtEnd now
 all_read words old new left now out_before out_after before after status w ran = ends_read words w.files (record { bytes = w.input; left = now }) status w.out w.line ran w.ends

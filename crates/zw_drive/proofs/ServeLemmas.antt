@@ -6,7 +6,7 @@ use Rattle.std.specs.Io.KnownBytes.{Appends}
 use Rattle.zw_base.specs.declared.files.Handed.{Handed}
 use Rattle.zw_drive.specs.Commands.{Asks, CommandLine, Build, Check}
 use Rattle.zw_drive.specs.Due.{AreFirst, IsDue, IsBeforeLoad, IsBuildDue, IsCheckDue, IsCommandDue, IsFront, IsTreeDue, IsWhole, Ends, Serves, TreeDue}
-use Rattle.zw_drive.specs.Ends.{WritesTree, Reports, Says, code_of}
+use Rattle.zw_drive.specs.Ends.{IsUnsaid, WritesTree, Reports, Says, code_of}
 use Rattle.zw_drive.specs.Inputs.{Reading}
 use Rattle.zw_drive.specs.Lines.{usage_line, tree_fault_line, out_fault_line}
 use Rattle.zw_drive.specs.declared.build.BuildErr.{BuildErr}
@@ -25,13 +25,17 @@ front_all bytes = (length bytes, sym (take-length bytes))
 abbrev pub unread : Option (List ℕ) → Reading
 unread left = record { bytes = []; left = left }
 
--- a line that was to end a command was said, or cut short
-pub said_ends : (words : List (List ℕ)) (files : List Handed) (reading : Reading) (out line said : List ℕ) (own status : Status) → IsWhole words files reading (code_of own) out line → ((said ≡ line) × (status ≡ own)) ⊎ (IsFront said line × ((status ≡ statuses.DiagFault) ⊎ (status ≡ statuses.OutOfMemory))) → Ends words files reading (code_of status) out said
+-- a line that was to end a command was cut short
+unsaid_ends : (words : List (List ℕ)) (files : List Handed) (reading : Reading) (out line said : List ℕ) (own status : Status) → IsWhole words files reading (code_of own) out line → IsFront said line → IsUnsaid line status → Ends words files reading (code_of status) out said
+unsaid_ends words files reading out line said own status whole front (inl e) =
+    inr (inl (record { due_status = code_of own; due_line = line; whole = whole; some = e.1; status_is = ap code_of e.0; line_is = front }))
+unsaid_ends words files reading out line said own status whole front (inr e) =
+    inr (inr (record { status_is = ap code_of e; written = inr (code_of own, out, line, whole, front_all out, front) }))
+
+-- it was said, or cut short
+pub said_ends : (words : List (List ℕ)) (files : List Handed) (reading : Reading) (out line said : List ℕ) (own status : Status) → IsWhole words files reading (code_of own) out line → ((said ≡ line) × (status ≡ own)) ⊎ (IsFront said line × IsUnsaid line status) → Ends words files reading (code_of status) out said
 said_ends words files reading out line said own status whole (inl h) = inl (rw (h.0, h.1) whole)
-said_ends words files reading out line said own status whole (inr h) = inr (record {
-  status_is = elim h.1 [ inl e ↦ inl (ap code_of e) | inr e ↦ inr (ap code_of e) ];
-  written = inr (code_of own, out, line, whole, front_all out, h.0);
-})
+said_ends words files reading out line said own status whole (inr h) = unsaid_ends words files reading out line said own status whole h.0 h.1
 
 -- there was no memory to read the words
 pub serves_nothing : (words : List (List ℕ)) (loaded : List Handed) (left out diag : Option (List ℕ)) → Serves words loaded loaded left left out out diag diag 11
@@ -46,7 +50,7 @@ serves_nothing words loaded left out diag =
       within = lit≤ tt;
       writes = Appends-none out;
       says = Appends-none diag;
-      ends = inr (record { status_is = inr refl; written = inl (refl, refl, inl refl) });
+      ends = inr (inr (record { status_is = refl; written = inl (refl, refl, inl refl) }));
     }
 
 -- words that are no command
@@ -143,10 +147,10 @@ module _ (words : List (List ℕ)) (asked : Option CommandLine) (asks : Asks wor
         within = lit≤ tt;
         writes = w.writes;
         says = subst (λ (t : Option (List ℕ)). Appends before t []) (sym says.same) (Appends-none before);
-        ends = inr (record {
-          status_is = inr (ap code_of says.own_status);
+        ends = inr (inr (record {
+          status_is = ap code_of says.own_status;
           written = elim w.ends [ inl h ↦ inl (h.0, refl, inr (asked, asks, first w.files h.1)) | inr h ↦ inr (0, h.0, [], inl (is_due w.files 0 h.0 [] h.1), h.2, front_all []) ];
-        });
+        }));
       }
 
 module _ (words : List (List ℕ)) (root : List ℕ) (old new : List Handed) (left out_before out_after before after : Option (List ℕ)) (ended : Result (Unit {0}) BuildErr) (status : Status) where

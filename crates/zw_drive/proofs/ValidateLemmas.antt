@@ -85,13 +85,14 @@ validates_bytes file old new before after bytes (Err validate.Oom) adds w =
       out = w.0;
       loads = adds.0;
       writes = w.1;
-      ends = elim w.2 [ inl e ↦ inl (e, inr (answers.Bytes bytes, refl)) | inr h ↦ inr (valid_line, due_valid file bytes valid_line adds.1 h.0 refl, h.1) ];
+      ends = elim w.2 [ inl e ↦ inl (e, inr (answers.Bytes bytes, refl, adds.1)) | inr h ↦ inr (valid_line, due_valid file bytes valid_line adds.1 h.0 refl, h.1) ];
     }
 
 -- what is due where there are no bytes of the file
 no_file : (file : List ℕ) (answer : Answer) (r : Refusal) → IsNoFile answer r → IsFileDue file answer (code_of (status_of r)) [] (refusal_line file r)
 no_file file answers.Absent r h = record { status_is = ap (λ (q : Refusal). code_of (status_of q)) h; out_is = refl; line_is = ap (refusal_line file) h }
-no_file file answers.TooLong r h = record { status_is = ap (λ (q : Refusal). code_of (status_of q)) h; out_is = refl; line_is = ap (refusal_line file) h }
+no_file file (answers.TooLong limit) r h =
+    (h.0, record { status_is = ap (λ (q : Refusal). code_of (status_of q)) h.1; out_is = refl; line_is = ap (refusal_line file) h.1 })
 no_file file (answers.Bytes bytes) r h = absurd h
 
 -- the load gave no bytes
@@ -177,10 +178,10 @@ module _ (words : List (List ℕ)) (file : List ℕ) (asks : Asks words (Some (V
         within = lit≤ tt;
         writes = w.writes;
         says = subst (λ (t : Option (List ℕ)). Appends before t []) (sym says.same) (Appends-none before);
-        ends = inr (record {
-          status_is = inr (ap code_of says.own_status);
+        ends = inr (inr (record {
+          status_is = ap code_of says.own_status;
           written = elim w.ends [ inl e ↦ inl (e.0, refl, inr (Some (Validate file), asks, e.1)) | inr h ↦ inr (0, h.0, [], inl (due_words w.files 0 h.0 [] h.1), h.2, front_all []) ];
-        });
+        }));
       }
 
 -- a refusal's status is 1 or 6

@@ -149,11 +149,23 @@ IsWhole words files reading status out line =
     IsDue words files reading status out line ⊎ IsTreeFault words files reading status out line ⊎ IsInputFault words files status out line
     ⊎ IsOutFault words files reading status out line
 
--- Status 10 or 11: of an end that was to be written whole, a front of its bytes and a front of its line were, or nothing
--- was written at all.
-pub record IsCutShort (words : List (List ℕ)) (files : List Handed) (reading : Reading) (status : ℕ) (out line : List ℕ) : Type 0 where
-  pub status_is : (status ≡ 10) ⊎ (status ≡ 11)
+-- the diagnostics failed: status 10, and of an end that was to be written whole, with a line that isn't empty, the bytes and a front of the line
+pub record IsDiagFault (words : List (List ℕ)) (files : List Handed) (reading : Reading) (status : ℕ) (out line : List ℕ) : Type 0 where
+  pub due_status : ℕ
+  pub due_line : List ℕ
+  pub whole : IsWhole words files reading due_status out due_line
+  pub some : 0 < length due_line
+  pub status_is : status ≡ 10
+  pub line_is : IsFront line due_line
+
+-- there was no memory: status 11, and of an end that was to be written whole a front of the bytes and a front of the line, or nothing at all
+pub record IsMemoryOut (words : List (List ℕ)) (files : List Handed) (reading : Reading) (status : ℕ) (out line : List ℕ) : Type 0 where
+  pub status_is : status ≡ 11
   pub written : ((out ≡ []) × (line ≡ []) × AreBegun words files) ⊎ ((due_status : ℕ) × (due_out due_line : List ℕ) × IsWhole words files reading due_status due_out due_line × IsFront out due_out × IsFront line due_line)
+
+-- an end that wasn't written whole
+abbrev pub IsCutShort : List (List ℕ) → List Handed → Reading → ℕ → List ℕ → List ℕ → Type 0
+IsCutShort words files reading status out line = IsDiagFault words files reading status out line ⊎ IsMemoryOut words files reading status out line
 
 -- how a command ends
 abbrev pub Ends : List (List ℕ) → List Handed → Reading → ℕ → List ℕ → List ℕ → Type 0

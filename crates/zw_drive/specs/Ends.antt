@@ -1,5 +1,5 @@
 -- How the parts of a command end: by cases on what each answers.
-use Rattle.std.specs.Prelude.{◌≡◌, ◌⊎◌, ℕ, Bool, true, false, List, [], ◌++◌, Result, Ok, Err, Option}
+use Rattle.std.specs.Prelude.{◌≡◌, ◌⊎◌, ℕ, ◌<◌, Bool, true, false, List, [], ◌++◌, length, Result, Ok, Err, Option}
 use Rattle.std.specs.Io.KnownBytes.{Appends}
 use Rattle.zw_base.specs.declared.files.Handed.{Handed}
 use Rattle.zw_base.specs.declared.stop.Refused.{Refused}
@@ -99,11 +99,15 @@ pub record WritesTree (due : TreeDue) (root : List ℕ) (loaded_before loaded_af
 abbrev pub ChecksTree : List ℕ → List Handed → List Handed → Result (Unit {0}) BuildErr → Type 0
 ChecksTree root before after result = (taken : Option (List ℕ)) → WritesTree IsCheckDue root before after taken taken result
 
+-- a line that isn't empty wasn't put whole by the diagnostics, or there was no memory
+abbrev pub IsUnsaid : List ℕ → Status → Type 0
+IsUnsaid line status = ((status ≡ statuses.DiagFault) × (0 < length line)) ⊎ (status ≡ statuses.OutOfMemory)
+
 -- a line was said: it was put whole and the status is its own, or a front of it was put and the status is 10 or 11
 pub record Says (own : Status) (line : List ℕ) (taken_before taken_after : Option (List ℕ)) (status : Status) : Type 0 where
   pub said : List ℕ
   pub puts : Appends taken_before taken_after said
-  pub ends : ((said ≡ line) × (status ≡ own)) ⊎ (IsFront said line × ((status ≡ statuses.DiagFault) ⊎ (status ≡ statuses.OutOfMemory)))
+  pub ends : ((said ≡ line) × (status ≡ own)) ⊎ (IsFront said line × IsUnsaid line status)
 
 -- nothing was said
 pub record IsSilent (own : Status) (taken_before taken_after : Option (List ℕ)) (status : Status) : Type 0 where

@@ -148,10 +148,11 @@ pub record AreExecBytesDue (request : Request) (bytes : List ℕ) (reading : Rea
   pub fits : length bytes ≤ MODULE_LIMIT
   pub due : IsRunDue request bytes reading status out line ⊎ IsRefusedDue request bytes reading status out line
 
--- what is due for an answer to the load of the file
+-- what is due for an answer to the load of the file, of which no more bytes were asked for than a module's file may have
 abbrev pub IsExecFileDue : Request → Answer → Reading → ℕ → List ℕ → List ℕ → Type 0
 IsExecFileDue request answers.Absent reading status out line = IsDeniedAtOnce request.path (denial.File refusal.Absent) reading status out line
-IsExecFileDue request answers.TooLong reading status out line = IsDeniedAtOnce request.path (denial.File refusal.TooLong) reading status out line
+IsExecFileDue request (answers.TooLong limit) reading status out line =
+    (limit ≡ MODULE_LIMIT) × IsDeniedAtOnce request.path (denial.File refusal.TooLong) reading status out line
 IsExecFileDue request (answers.Bytes bytes) reading status out line = AreExecBytesDue request bytes reading status out line
 
 -- what is due for `exec`: the tree hands over the file and nothing else
@@ -160,8 +161,9 @@ pub record IsExecDue (request : Request) (files : List Handed) (reading : Readin
   pub files_are : files ≡ record { path = request.path; answer = answer } ∷ []
   pub due : IsExecFileDue request answer reading status out line
 
--- the file's bytes spell a valid module, and its calls aren't denied: the input is read next
+-- the file's bytes, no more than a module's file may have, spell a valid module, and its calls aren't denied: the input is read next
 pub record AreReady (request : Request) (bytes : List ℕ) : Type 0 where
+  pub fits : length bytes ≤ MODULE_LIMIT
   pub m : Module
   pub spelled : ModuleBytes m bytes
   pub valid : IsValid m

@@ -2,7 +2,7 @@
 use Rattle.std.specs.Prelude.{◌≡◌, ◌⊎◌, ℕ, ◌≤◌, Bool, true, false, List, [], ◌∷◌, ◌++◌, codes, length, Option, Some, Result, Ok, Err, Vec}
 use Rattle.std.specs.Io.KnownBytes.{Appends}
 use Rattle.std.specs.declared.alloc.Global.{Global}
-use Rattle.zw_base.specs.Outside.{AppendsFront}
+use Rattle.zw_base.specs.Outside.{AppendsFront, IsAnswerAt}
 use Rattle.zw_base.specs.declared.files.Answer.{Answer}
 use Rattle.zw_base.specs.declared.files.Answer.TheVariants as answers
 use Rattle.zw_base.specs.declared.files.Handed.{Handed}
@@ -51,10 +51,10 @@ pub record AreBytesDue (file bytes : List ℕ) (status : ℕ) (out line : List �
   pub fits : length bytes ≤ MODULE_LIMIT
   pub due : (SpellValid bytes × IsAccepted status out line) ⊎ ((r : Refusal) × Refuses bytes r × IsRefused file r status out line)
 
--- what is due for an answer to the load of the file
+-- what is due for an answer to the load of the file, of which no more bytes were asked for than a module's file may have
 abbrev pub IsFileDue : List ℕ → Answer → ℕ → List ℕ → List ℕ → Type 0
 IsFileDue file answers.Absent status out line = IsRefused file refusal.Absent status out line
-IsFileDue file answers.TooLong status out line = IsRefused file refusal.TooLong status out line
+IsFileDue file (answers.TooLong limit) status out line = (limit ≡ MODULE_LIMIT) × IsRefused file refusal.TooLong status out line
 IsFileDue file (answers.Bytes bytes) status out line = AreBytesDue file bytes status out line
 
 -- what is due for `validate FILE`: the tree hands over the file and nothing else
@@ -120,7 +120,7 @@ out_failed (Err validate.Oom) = false
 -- there are no bytes of the file, and this refuses it
 abbrev pub IsNoFile : Answer → Refusal → Type 0
 IsNoFile answers.Absent r = r ≡ refusal.Absent
-IsNoFile answers.TooLong r = r ≡ refusal.TooLong
+IsNoFile (answers.TooLong limit) r = (limit ≡ MODULE_LIMIT) × (r ≡ refusal.TooLong)
 IsNoFile (answers.Bytes bytes) r = ⊥
 
 -- how the load of the file ends
@@ -131,9 +131,9 @@ FileLoads file old new (Err validate.TreeFault) = new ≡ old
 FileLoads file old new (Err validate.OutFault) = ⊥
 FileLoads file old new (Err validate.Oom) = new ≡ old
 
--- the tree handed over the file, or nothing
+-- the tree handed over the file, with an answer at the limit of a module's file, or nothing
 abbrev pub IsFileAtMost : List ℕ → List Handed → Type 0
-IsFileAtMost file files = (files ≡ []) ⊎ ((answer : Answer) × (files ≡ record { path = file; answer = answer } ∷ []))
+IsFileAtMost file files = (files ≡ []) ⊎ ((answer : Answer) × (files ≡ record { path = file; answer = answer } ∷ []) × IsAnswerAt MODULE_LIMIT answer)
 
 -- how validating a file ends, with these files handed over and these bytes taken
 abbrev pub ValidateEnds : List ℕ → List Handed → List ℕ → Result (Unit {0}) ValidateErr → Type 0

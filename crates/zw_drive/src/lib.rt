@@ -18,4 +18,4 @@ mod status;
 mod validate;
 
 pub use drive::zig;
-pub use laws::{one_due, sessions_are_of_fitting_calls, sessions_stay_ended};
+pub use laws::{limits_are_fixed, one_due, sessions_are_of_fitting_calls, sessions_stay_ended};

@@ -15,7 +15,10 @@ mod rules;
 mod source;
 mod sums;
 
-pub use laws::{form_or_stop, forms_are_small, one_form, one_stop};
+pub use laws::{
+    form_or_stop, forms_are_small, limits_are_fixed, names_are_reserved, one_form, one_stop,
+    stops_are_numbered,
+};
 pub use members::{FRAME_WEIGHT, NODE_LIMIT, NODES, NOT_BUILT, PARAMETER_WEIGHT, WEIGHT_LIMIT};
 pub use names::RESERVED_NAMES;
 pub use program::{Action, Function, Import, Program};

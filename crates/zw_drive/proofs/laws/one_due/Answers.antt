@@ -1,5 +1,8 @@
-use Rattle.zw_drive.proofs.DueLemmas.{one_due_lem}
+use Rattle.zw_drive.proofs.DueLemmas.{one_due_lem, one_output}
 use Rattle.zw_drive.proofs.laws.one_due.Goals as goal
 
-pub returns : goal.returns
-returns c = one_due_lem
+pub returns-clause-told : goal.returns-clause-told
+returns-clause-told c = one_due_lem
+
+pub returns-clause-output : goal.returns-clause-output
+returns-clause-output c = one_output
