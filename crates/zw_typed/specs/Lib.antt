@@ -14,3 +14,4 @@ pub mod FlowOperators
 pub mod FlowRanges
 pub mod FlowMeanings
 pub mod FlowMachines
+pub mod WorkedFlow
