@@ -128,6 +128,45 @@ over ranges bounds body = function [] (u8 ∷ usize ∷ usize ∷ []) (block (no
 abbrev pub one_more : FlowNode
 one_more = block (set 0 (plus (get 0) (number 1)) ∷ [])
 
+-- a call of `extern fn h() u8`, and the record of one
+abbrev pub asks : FlowNode
+asks = node true u8 (CallHost (record { name = codes "h"; params = []; result = u8 }) (nodes_from []))
+
+abbrev pub asked : Entry
+asked = Host (record { name = codes "h"; args = []; shown = [] })
+
+-- `while (h() < 2) {} return 0;`
+abbrev pub asking : Function
+asking = function [] [] (block (loop 0 1 2 (less asks (number 2)) none (block []) ∷ give (number 0) ∷ []))
+
+-- `return f(h());`, of itself
+abbrev pub itself_of_asked : Function
+itself_of_asked = function (u8 ∷ []) [] (block (give (node true u8 (Called 0 (nodes_from (asks ∷ [])))) ∷ []))
+
+-- `f`: `return g(n);`, and `g`: `if (n == 0) return 4; return f(n - 1);`
+abbrev pub minus : FlowNode → FlowNode → FlowNode
+minus a b = node true u8 (Operate (family.Arithmetic sum.Sub) (nodes_from (a ∷ b ∷ [])))
+
+abbrev pub to_other : Function
+to_other = function (u8 ∷ []) [] (block (give (node true u8 (Called 1 (nodes_from (get 0 ∷ [])))) ∷ []))
+
+abbrev pub and_back : Function
+and_back = function (u8 ∷ []) [] (block (when (equal (get 0) (number 0)) (give (number 4)) ∷
+    give (node true u8 (Called 0 (nodes_from (minus (get 0) (number 1) ∷ [])))) ∷ []))
+
+-- a function with `var x: u8 = n;` in front, its variable 0
+abbrev pub with_variable : ℕ → List FlowNode → Function
+with_variable n statements = function [] (u8 ∷ []) (block (node true tree.VoidType (Declare 0 true (number n)) ∷ statements))
+
+-- `var x: u8 = 0; outer: while (x < 2) : (x += 1) { while (true) { continue :outer; } } return x;`
+abbrev pub outer_goes_on : Function
+outer_goes_on = with_variable 0 (loop 0 1 2 (less (get 0) (number 2)) (set 0 (plus (get 0) (number 1)))
+    (block (loop 3 4 5 (truth true) none (block (leave 1 none ∷ [])) ∷ [])) ∷ give (get 0) ∷ [])
+
+-- `var x: u8 = 1; x += b: { x = 10; break :b 1; }; return x;`
+abbrev pub read_before : Function
+read_before = with_variable 1 (set 0 (plus (get 0) (node true u8 (Target 0 (block (set 0 (number 10) ∷ leave 0 (number 1) ∷ []))))) ∷ give (get 0) ∷ [])
+
 pub record WorkedFlow : Type 0 where
   -- three turns come to 3, with three returns to the condition; with two turns it still runs, and without any where one is due
   pub three : told 2048 (program (up_to ∷ [])) (3 ∷ []) [] 3 ≡ result 3
@@ -157,3 +196,35 @@ pub record WorkedFlow : Type 0 where
   -- The call, the body's block and the loop are three visits; then each of four conditions and four bodies is one: 11. Three returns were turns,
   -- and a fourth one was due.
   pub visits : (counts 2048 (program (for_ever ∷ [])) [] [] 3).visits ≡ 11
+  -- the host is asked at each test of the condition: three times, with two returns between; a reply that is missing ends the session there
+  pub host_in_condition : told 2048 (program (asking ∷ [])) [] (0 ∷ 1 ∷ 2 ∷ []) 2 ≡ record { entries = asked ∷ asked ∷ asked ∷ Result (Some (Number (pos 0))) ∷ []; end = Finished }
+  pub host_runs : told 2048 (program (asking ∷ [])) [] (0 ∷ 1 ∷ 2 ∷ []) 1 ≡ record { entries = asked ∷ asked ∷ []; end = Ended Running }
+  pub no_reply : told 2048 (program (asking ∷ [])) [] (0 ∷ 1 ∷ []) 9 ≡ record { entries = asked ∷ asked ∷ asked ∷ []; end = Ended WantsReply }
+  -- the argument is evaluated, and then the call is one too many, which takes no turn
+  pub argument_first : told 1 (program (itself_of_asked ∷ [])) (5 ∷ []) (7 ∷ []) 0 ≡ record { entries = asked ∷ []; end = Ended (Panicked 19 []) }
+  -- where it isn't, it is the turn that is wanted, behind the argument too
+  pub argument_then_turn : told 2 (program (itself_of_asked ∷ [])) (5 ∷ []) (7 ∷ []) 0 ≡ record { entries = asked ∷ []; end = Ended Running }
+  -- `f(1)`, `g(1)`, `f(0)`, `g(0)`: three calls beside the exported one, each a turn
+  pub each_other : told 4 (program (to_other ∷ and_back ∷ [])) (1 ∷ []) [] 3 ≡ result 4
+  pub each_other_runs : told 4 (program (to_other ∷ and_back ∷ [])) (1 ∷ []) [] 2 ≡ running
+  pub each_other_deep : told 3 (program (to_other ∷ and_back ∷ [])) (1 ∷ []) [] 9 ≡ panic 19
+  -- The inner loop never returns to its condition: two turns are those of the outer one, whose step is evaluated behind a `continue`.
+  pub goes_on_outside : told 2048 (program (outer_goes_on ∷ [])) [] [] 2 ≡ result 2
+  pub goes_on_runs : told 2048 (program (outer_goes_on ∷ [])) [] [] 1 ≡ running
+  -- the variable is read before the other operand writes it
+  pub reads_first : told 2048 (program (read_before ∷ [])) [] [] 0 ≡ result 2
+  -- 255 + 1 isn't a `u8`; `unreachable`; a variable that isn't declared can't be read, which is no end of a source
+  pub overflows : told 2048 (program (with_variable 255 (give (plus (get 0) (number 1)) ∷ []) ∷ [])) [] [] 0 ≡ panic 1
+  pub stops_there : told 2048 (program (function [] [] (node true tree.NoReturnType (Stop 6)) ∷ [])) [] [] 0 ≡ panic 6
+  pub undeclared : told 2048 (program (function [] (u8 ∷ []) (give (get 0)) ∷ [])) [] [] 0 ≡ record { entries = []; end = Ended (Trapped 0) }
+  -- `return 7;`: the call 32, the block 2, the return 4, the number 2, and one byte that is returned 16; four visits
+  pub seven : counts 2048 (program (function [] [] (block (give (number 7) ∷ [])) ∷ [])) [] [] 0 ≡ record { visits = 4; moved = 1; work = 56 }
+  -- `return a;`: a byte is bound, read and returned: 48, and 32 + 2 + 4 + 4
+  pub argument : counts 2048 (program (function (u8 ∷ []) [] (block (give (get 0) ∷ [])) ∷ [])) (9 ∷ []) [] 0 ≡ record { visits = 4; moved = 3; work = 90 }
+  -- `while (true) {}` under three turns: 32 + 2 + 4 + 4, four times 24 (the choice 8, the condition 2, in order 2, two targets 8, the body 2, the step
+  -- that isn't there 2), and three returns of 16
+  pub three_turns : counts 2048 (program (for_ever ∷ [])) [] [] 3 ≡ record { visits = 11; moved = 0; work = 186 }
+  -- Two calls of the function that calls itself: twice a call, a block, a return and a node of a call; the third call gets no turn.
+  pub calls : counts 5 (program (itself ∷ [])) [] [] 1 ≡ record { visits = 8; moved = 0; work = 140 }
+  -- out of two blocks: the call and eight nodes; a byte comes to the outer block and is returned
+  pub out : counts 2048 (program (out_of_two ∷ [])) [] [] 0 ≡ record { visits = 9; moved = 2; work = 88 }
