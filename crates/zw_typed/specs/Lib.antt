@@ -7,3 +7,11 @@ pub mod WorkedPrograms
 pub mod HostTypes
 pub mod ValueTypes
 pub mod NodeTypes
+pub mod FlowNodes
+pub mod FlowCounts
+pub mod FlowRuns
+pub mod FlowOperators
+pub mod FlowRanges
+pub mod FlowMeanings
+pub mod FlowMachines
+pub mod WorkedFlow

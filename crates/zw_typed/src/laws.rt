@@ -4,6 +4,7 @@ ghost use Rattle.std.specs.Str.{is_utf8};
 ghost use Rattle.zw_session.specs.Bounds.{StaysEnded};
 ghost use Rattle.zw_typed.specs.Exports.{Exported, exports_machine};
 ghost use Rattle.zw_typed.specs.HostTypes.{is_utf8_name};
+ghost use Rattle.zw_typed.specs.WorkedFlow.{WorkedFlow};
 ghost use Rattle.zw_typed.specs.WorkedPrograms.{WorkedPrograms};
 
 /// A call of an exported function that ended stays ended under a larger bound, so that sessions of it do.
@@ -19,4 +20,9 @@ pub fn programs_are_worked()
 /// The test of the names of functions that the host sees is that of UTF-8.
 pub fn names_are_utf8()
     ensures { (name : List ℕ) → is_utf8_name name ≡ is_utf8 name }
+{}
+
+/// Sessions with statements, variables and calls, worked out by hand.
+pub fn flow_is_worked()
+    ensures { WorkedFlow }
 {}
