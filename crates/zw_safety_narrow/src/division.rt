@@ -5,6 +5,7 @@ ghost use Rattle.zw_safety_narrow.specs.CompareCode.{is_unsigned};
 ghost use Rattle.zw_safety_narrow.specs.DivisionCode.{divisor_tested, are_unsigned, quotient_code, rest_code};
 ghost use Rattle.zw_safety_narrow.specs.FloorCode.{floored_rest, modulo_code, both_kept, whole_quotient, floor_long, floor_code};
 ghost use Rattle.zw_safety_narrow.specs.Operators.{IsNarrow};
+ghost use Rattle.zw_safety_narrow.specs.declared.setting.TheConstants.{GREATEST_SCRATCH};
 
 use crate::casts::holds;
 use crate::compare::is_unsigned;
@@ -27,7 +28,7 @@ pub fn push_quotient(
     out: &mut Vec<Instr>,
 ) -> Result<(), AllocError>
     requires narrow { IsNarrow to }
-    requires scratch { scratch ≤ 4294967287 }
+    requires scratch { scratch ≤ GREATEST_SCRATCH }
     ensures { OnOk result (out.new.items ≡ out.old.items ++ quotient_code left right to scratch) }
 {
     push_divisor_tested(scratch, out)?;
@@ -54,7 +55,7 @@ pub fn push_rest(
     scratch: u32,
     out: &mut Vec<Instr>,
 ) -> Result<(), AllocError>
-    requires { scratch ≤ 4294967287 }
+    requires { scratch ≤ GREATEST_SCRATCH }
     ensures { OnOk result (out.new.items ≡ out.old.items ++ rest_code left right scratch) }
 {
     push_divisor_tested(scratch, out)?;
@@ -75,7 +76,7 @@ pub fn push_modulo(
     scratch: u32,
     out: &mut Vec<Instr>,
 ) -> Result<(), AllocError>
-    requires { scratch ≤ 4294967287 }
+    requires { scratch ≤ GREATEST_SCRATCH }
     ensures { OnOk result (out.new.items ≡ out.old.items ++ modulo_code left right scratch) }
 {
     push_divisor_tested(scratch, out)?;
@@ -94,7 +95,7 @@ pub fn push_floor(
     out: &mut Vec<Instr>,
 ) -> Result<(), AllocError>
     requires narrow { IsNarrow to }
-    requires scratch { scratch ≤ 4294967287 }
+    requires scratch { scratch ≤ GREATEST_SCRATCH }
     ensures { OnOk result (out.new.items ≡ out.old.items ++ floor_code left right to scratch) }
 {
     push_divisor_tested(scratch, out)?;
@@ -115,7 +116,7 @@ fn push_floor_long(
     out: &mut Vec<Instr>,
 ) -> Result<(), AllocError>
     requires narrow { IsNarrow to }
-    requires scratch { scratch ≤ 4294967287 }
+    requires scratch { scratch ≤ GREATEST_SCRATCH }
     ensures { OnOk result (out.new.items ≡ out.old.items ++ floor_long left right to scratch) }
 {
     push_both_kept(left, right, scratch, out)?;
@@ -134,7 +135,7 @@ pub fn push_both_kept(
     scratch: u32,
     out: &mut Vec<Instr>,
 ) -> Result<(), AllocError>
-    requires { scratch ≤ 4294967287 }
+    requires { scratch ≤ GREATEST_SCRATCH }
     ensures { OnOk result (out.new.items ≡ out.old.items ++ both_kept left right scratch) }
 {
     out.push(Instr::Convert(extension(right)))?;

@@ -2,6 +2,7 @@
 ghost use Rattle.std.specs.Prelude.{◌≡◌, ◌≤◌, ◌++◌, ◌&&◌, OnOk};
 ghost use Rattle.zw_safety_narrow.specs.ExactCode.{exact_short, kept_quotient, no_rest, quotient_word, exact_long, exact_quotient_code, left_exact_code, none_dropped_code, right_exact_code};
 ghost use Rattle.zw_safety_narrow.specs.Operators.{IsNarrow};
+ghost use Rattle.zw_safety_narrow.specs.declared.setting.TheConstants.{GREATEST_SCRATCH};
 
 use crate::casts::holds;
 use crate::compare::push_doubled;
@@ -27,7 +28,7 @@ pub fn push_exact_quotient(
     out: &mut Vec<Instr>,
 ) -> Result<(), AllocError>
     requires narrow { IsNarrow to }
-    requires scratch { scratch ≤ 4294967287 }
+    requires scratch { scratch ≤ GREATEST_SCRATCH }
     ensures { OnOk result (out.new.items ≡ out.old.items ++ exact_quotient_code left right to scratch) }
 {
     push_divisor_tested(scratch, out)?;
@@ -40,7 +41,7 @@ pub fn push_exact_quotient(
 
 /// Appends code that panics where a quotient leaves a rest, and else leaves it.
 fn push_exact_short(scratch: u32, out: &mut Vec<Instr>) -> Result<(), AllocError>
-    requires { scratch ≤ 4294967287 }
+    requires { scratch ≤ GREATEST_SCRATCH }
     ensures { OnOk result (out.new.items ≡ out.old.items ++ exact_short scratch) }
 {
     push_doubled(scratch, out)?;
@@ -59,7 +60,7 @@ fn push_exact_long(
     out: &mut Vec<Instr>,
 ) -> Result<(), AllocError>
     requires narrow { IsNarrow to }
-    requires scratch { scratch ≤ 4294967287 }
+    requires scratch { scratch ≤ GREATEST_SCRATCH }
     ensures { OnOk result (out.new.items ≡ out.old.items ++ exact_long left right to scratch) }
 {
     push_both_kept(left, right, scratch, out)?;
@@ -72,7 +73,7 @@ fn push_exact_long(
 
 /// Appends code that divides in 64 bits, into a local too.
 fn push_kept_quotient(scratch: u32, out: &mut Vec<Instr>) -> Result<(), AllocError>
-    requires { scratch ≤ 4294967287 }
+    requires { scratch ≤ GREATEST_SCRATCH }
     ensures { OnOk result (out.new.items ≡ out.old.items ++ kept_quotient scratch) }
 {
     out.push(Instr::Binary(ValType::I64, BinaryOperator::DivS))?;
@@ -82,7 +83,7 @@ fn push_kept_quotient(scratch: u32, out: &mut Vec<Instr>) -> Result<(), AllocErr
 
 /// Appends code that panics where its operand leaves a rest by the number in a local.
 fn push_no_rest(scratch: u32, out: &mut Vec<Instr>) -> Result<(), AllocError>
-    requires { scratch ≤ 4294967287 }
+    requires { scratch ≤ GREATEST_SCRATCH }
     ensures { OnOk result (out.new.items ≡ out.old.items ++ no_rest scratch) }
 {
     out.push(Instr::LocalGet(scratch + 4))?;
@@ -93,7 +94,7 @@ fn push_no_rest(scratch: u32, out: &mut Vec<Instr>) -> Result<(), AllocError>
 
 /// Appends code that leaves the quotient in a local.
 fn push_quotient_word(scratch: u32, out: &mut Vec<Instr>) -> Result<(), AllocError>
-    requires { scratch ≤ 4294967287 }
+    requires { scratch ≤ GREATEST_SCRATCH }
     ensures { OnOk result (out.new.items ≡ out.old.items ++ quotient_word scratch) }
 {
     out.push(Instr::LocalGet(scratch + 6))?;
@@ -110,7 +111,7 @@ pub fn push_left_exact(
     out: &mut Vec<Instr>,
 ) -> Result<(), AllocError>
     requires narrow { IsNarrow to }
-    requires scratch { scratch ≤ 4294967287 }
+    requires scratch { scratch ≤ GREATEST_SCRATCH }
     ensures { OnOk result (out.new.items ≡ out.old.items ++ left_exact_code left right to scratch) }
 {
     push_amount_tested(width(to), right, scratch, out)?;
@@ -133,7 +134,7 @@ pub fn push_right_exact(
     scratch: u32,
     out: &mut Vec<Instr>,
 ) -> Result<(), AllocError>
-    requires { scratch ≤ 4294967287 }
+    requires { scratch ≤ GREATEST_SCRATCH }
     ensures { OnOk result (out.new.items ≡ out.old.items ++ right_exact_code left right to scratch) }
 {
     push_amount_tested(width(to), right, scratch, out)?;
@@ -149,7 +150,7 @@ fn push_none_dropped(
     scratch: u32,
     out: &mut Vec<Instr>,
 ) -> Result<(), AllocError>
-    requires { scratch ≤ 4294967287 }
+    requires { scratch ≤ GREATEST_SCRATCH }
     ensures { OnOk result (out.new.items ≡ out.old.items ++ none_dropped_code operator scratch) }
 {
     out.push(Instr::Binary(ValType::I32, operator))?;

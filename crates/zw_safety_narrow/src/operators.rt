@@ -6,6 +6,7 @@ ghost use Rattle.zw_safety_narrow.specs.NarrowCode.{extension, above_least, exte
 ghost use Rattle.zw_safety_narrow.specs.OperatorCode.{word_code, not_code, code_of_counts, code_of_reversals, code_of_one, code_of_bounds, code_of_exact, code_of_order, code_of_shares, operator_code};
 ghost use Rattle.zw_safety_narrow.specs.Operators.{IsNarrow};
 ghost use Rattle.zw_num.specs.declared.int_ty.IntTy.TheVariants.{Sized};
+ghost use Rattle.zw_safety_narrow.specs.declared.setting.TheConstants.{GREATEST_SCRATCH};
 
 use crate::casts::{
     push_cast, push_distance, push_negated_wrapped, push_opposite, push_truncated, push_turned,
@@ -43,7 +44,7 @@ pub fn push_operator(
 ) -> Result<(), AllocError>
     requires from_narrow { IsNarrow left }
     requires to_narrow { IsNarrow to }
-    requires scratch { scratch ≤ 4294967287 }
+    requires scratch { scratch ≤ GREATEST_SCRATCH }
     ensures { OnOk result (out.new.items ≡ out.old.items ++ operator_code op left right to scratch) }
 {
     match op {
@@ -79,7 +80,7 @@ fn push_bounds(
 ) -> Result<(), AllocError>
     requires from_narrow { IsNarrow left }
     requires to_narrow { IsNarrow to }
-    requires scratch { scratch ≤ 4294967287 }
+    requires scratch { scratch ≤ GREATEST_SCRATCH }
     ensures { OnOk result (out.new.items ≡ out.old.items ++ code_of_bounds op left right to scratch) }
 {
     match op {
@@ -109,7 +110,7 @@ fn push_order(
 ) -> Result<(), AllocError>
     requires from_narrow { IsNarrow left }
     requires to_narrow { IsNarrow to }
-    requires scratch { scratch ≤ 4294967287 }
+    requires scratch { scratch ≤ GREATEST_SCRATCH }
     ensures { OnOk result (out.new.items ≡ out.old.items ++ code_of_order op left right to scratch) }
 {
     match op {
@@ -150,7 +151,7 @@ fn push_shares(
 ) -> Result<(), AllocError>
     requires from_narrow { IsNarrow left }
     requires to_narrow { IsNarrow to }
-    requires scratch { scratch ≤ 4294967287 }
+    requires scratch { scratch ≤ GREATEST_SCRATCH }
     ensures { OnOk result (out.new.items ≡ out.old.items ++ code_of_shares op left right to scratch) }
 {
     match op {
@@ -177,7 +178,7 @@ fn push_exacts(
 ) -> Result<(), AllocError>
     requires from_narrow { IsNarrow left }
     requires to_narrow { IsNarrow to }
-    requires scratch { scratch ≤ 4294967287 }
+    requires scratch { scratch ≤ GREATEST_SCRATCH }
     ensures { OnOk result (out.new.items ≡ out.old.items ++ code_of_exact op left right to scratch) }
 {
     match op {
@@ -199,7 +200,7 @@ fn push_of_one(
 ) -> Result<(), AllocError>
     requires from_narrow { IsNarrow from }
     requires to_narrow { IsNarrow to }
-    requires scratch { scratch ≤ 4294967287 }
+    requires scratch { scratch ≤ GREATEST_SCRATCH }
     ensures { OnOk result (out.new.items ≡ out.old.items ++ code_of_one op from to scratch) }
 {
     match op {
@@ -225,7 +226,7 @@ fn push_reversals(
 ) -> Result<(), AllocError>
     requires from_narrow { IsNarrow from }
     requires to_narrow { IsNarrow to }
-    requires scratch { scratch ≤ 4294967287 }
+    requires scratch { scratch ≤ GREATEST_SCRATCH }
     ensures { OnOk result (out.new.items ≡ out.old.items ++ code_of_reversals op from to scratch) }
 {
     match op {
@@ -264,7 +265,7 @@ fn push_sum(
     out: &mut Vec<Instr>,
 ) -> Result<(), AllocError>
     requires narrow { IsNarrow to }
-    requires scratch { scratch ≤ 4294967287 }
+    requires scratch { scratch ≤ GREATEST_SCRATCH }
     ensures { OnOk result (out.new.items ≡ out.old.items ++ sum_code left right to scratch) }
 {
     if is_u32(left) && is_u32(right) && is_u32(to) {
@@ -291,7 +292,7 @@ fn push_difference(
     out: &mut Vec<Instr>,
 ) -> Result<(), AllocError>
     requires narrow { IsNarrow to }
-    requires scratch { scratch ≤ 4294967287 }
+    requires scratch { scratch ≤ GREATEST_SCRATCH }
     ensures { OnOk result (out.new.items ≡ out.old.items ++ difference_code left right to scratch) }
 {
     if is_u32(left) && is_u32(right) && is_u32(to) {
@@ -333,7 +334,7 @@ pub fn push_exact(
     out: &mut Vec<Instr>,
 ) -> Result<(), AllocError>
     requires narrow { IsNarrow to }
-    requires scratch { scratch ≤ 4294967287 }
+    requires scratch { scratch ≤ GREATEST_SCRATCH }
     ensures { OnOk result (out.new.items ≡ out.old.items ++ exact_code_or cause operator left right to scratch) }
 {
     push_extended(left, right, scratch, out)?;
@@ -353,7 +354,7 @@ pub fn push_extended(
     scratch: u32,
     out: &mut Vec<Instr>,
 ) -> Result<(), AllocError>
-    requires { scratch ≤ 4294967287 }
+    requires { scratch ≤ GREATEST_SCRATCH }
     ensures { OnOk result (out.new.items ≡ out.old.items ++ extended left right scratch) }
 {
     out.push(Instr::Convert(extension(right)))?;
@@ -500,7 +501,7 @@ pub fn mask(bits: u8) -> i32
 
 /// Appends the code of `+` on `u32`.
 fn push_add(scratch: u32, out: &mut Vec<Instr>) -> Result<(), AllocError>
-    requires { scratch ≤ 4294967287 }
+    requires { scratch ≤ GREATEST_SCRATCH }
     ensures { OnOk result (out.new.items ≡ out.old.items ++ add_code scratch) }
 {
     push_kept(scratch, out)?;
@@ -514,7 +515,7 @@ fn push_add(scratch: u32, out: &mut Vec<Instr>) -> Result<(), AllocError>
 
 /// Appends the code of `-` on `u32`.
 fn push_sub(scratch: u32, out: &mut Vec<Instr>) -> Result<(), AllocError>
-    requires { scratch ≤ 4294967287 }
+    requires { scratch ≤ GREATEST_SCRATCH }
     ensures { OnOk result (out.new.items ≡ out.old.items ++ sub_code scratch) }
 {
     push_kept(scratch, out)?;
@@ -528,7 +529,7 @@ fn push_sub(scratch: u32, out: &mut Vec<Instr>) -> Result<(), AllocError>
 
 /// Appends code that keeps both operands, and leaves them.
 fn push_kept(scratch: u32, out: &mut Vec<Instr>) -> Result<(), AllocError>
-    requires { scratch ≤ 4294967287 }
+    requires { scratch ≤ GREATEST_SCRATCH }
     ensures { OnOk result (out.new.items ≡ out.old.items ++ kept scratch) }
 {
     out.push(Instr::LocalSet(scratch))?;

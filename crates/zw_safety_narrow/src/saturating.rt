@@ -3,6 +3,7 @@ ghost use Rattle.std.specs.Prelude.{◌≡◌, ◌≤◌, ◌++◌, OnOk};
 ghost use Rattle.zw_num.specs.Arithmetic.{least, greatest};
 ghost use Rattle.zw_safety_narrow.specs.Operators.{IsNarrow};
 ghost use Rattle.zw_safety_narrow.specs.SaturatingCode.{bounded, saturated_code, natural_code, saturated_product_code, bounded_amount, saturated_left_code};
+ghost use Rattle.zw_safety_narrow.specs.declared.setting.TheConstants.{GREATEST_SCRATCH};
 
 use crate::compare::is_unsigned;
 use crate::counts::push_at_most;
@@ -23,7 +24,7 @@ pub fn push_saturated(
     out: &mut Vec<Instr>,
 ) -> Result<(), AllocError>
     requires narrow { IsNarrow to }
-    requires scratch { scratch ≤ 4294967287 }
+    requires scratch { scratch ≤ GREATEST_SCRATCH }
     ensures { OnOk result (out.new.items ≡ out.old.items ++ saturated_code operator left right to scratch) }
 {
     push_extended(left, right, scratch, out)?;
@@ -43,7 +44,7 @@ pub fn push_saturated_product(
     out: &mut Vec<Instr>,
 ) -> Result<(), AllocError>
     requires narrow { IsNarrow to }
-    requires scratch { scratch ≤ 4294967287 }
+    requires scratch { scratch ≤ GREATEST_SCRATCH }
     ensures { OnOk result (out.new.items ≡ out.old.items ++ saturated_product_code left right to scratch) }
 {
     if are_unsigned(left, right) {
@@ -62,7 +63,7 @@ pub fn push_saturated_left(
     out: &mut Vec<Instr>,
 ) -> Result<(), AllocError>
     requires narrow { IsNarrow to }
-    requires scratch { scratch ≤ 4294967287 }
+    requires scratch { scratch ≤ GREATEST_SCRATCH }
     ensures { OnOk result (out.new.items ≡ out.old.items ++ saturated_left_code left right to scratch) }
 {
     push_bounded_amount(right, scratch, out)?;
@@ -94,7 +95,7 @@ fn push_natural(
     out: &mut Vec<Instr>,
 ) -> Result<(), AllocError>
     requires narrow { IsNarrow to }
-    requires scratch { scratch ≤ 4294967287 }
+    requires scratch { scratch ≤ GREATEST_SCRATCH }
     ensures { OnOk result (out.new.items ≡ out.old.items ++ natural_code operator left right to scratch) }
 {
     push_extended(left, right, scratch, out)?;
@@ -112,7 +113,7 @@ fn push_topped(
     out: &mut Vec<Instr>,
 ) -> Result<(), AllocError>
     requires narrow { IsNarrow to }
-    requires scratch { scratch ≤ 4294967287 }
+    requires scratch { scratch ≤ GREATEST_SCRATCH }
     ensures { OnOk result (out.new.items ≡ out.old.items ++ bounded comparison (greatest to) scratch) }
 {
     out.push(Instr::LocalTee(scratch + 4))?;
@@ -127,7 +128,7 @@ fn push_topped(
 /// Appends code that leaves its operand, or the least value of the type where it isn't greater.
 fn push_bottomed(to: IntTy, scratch: u32, out: &mut Vec<Instr>) -> Result<(), AllocError>
     requires narrow { IsNarrow to }
-    requires scratch { scratch ≤ 4294967287 }
+    requires scratch { scratch ≤ GREATEST_SCRATCH }
     ensures { OnOk result (out.new.items ≡ out.old.items ++ bounded Comparison.GtS (least to) scratch) }
 {
     out.push(Instr::LocalTee(scratch + 4))?;
