@@ -7,6 +7,7 @@ mod compare;
 mod counts;
 mod division;
 mod exact;
+mod families;
 mod laws;
 mod operators;
 mod reversal;
@@ -16,7 +17,8 @@ mod shifts;
 
 pub use casts::holds;
 pub use compare::is_unsigned;
-pub use laws::narrow_code_is_right;
+pub use families::push_narrow;
+pub use laws::{families_are_right, narrow_code_is_right};
 pub use operators::{INTEGER_OVERFLOW, extension, push_if_panics, push_narrowed, push_operator};
 pub use setting::{GREATEST_SCRATCH, Setting};
 pub use shifts::{right_operator, width};

@@ -92,7 +92,7 @@ fn push_bounds(
 }
 
 /// Appends an operator on 32 bits.
-fn push_word(operator: BinaryOperator, out: &mut Vec<Instr>) -> Result<(), AllocError>
+pub fn push_word(operator: BinaryOperator, out: &mut Vec<Instr>) -> Result<(), AllocError>
     ensures { OnOk result (out.new.items ≡ out.old.items ++ word_code operator) }
 {
     out.push(Instr::Binary(ValType::I32, operator))?;
@@ -249,7 +249,7 @@ fn push_counts(op: u16, from: IntTy, scratch: u32, out: &mut Vec<Instr>) -> Resu
 }
 
 /// Appends the test whether an operand is 0.
-fn push_is_zero(out: &mut Vec<Instr>) -> Result<(), AllocError>
+pub fn push_is_zero(out: &mut Vec<Instr>) -> Result<(), AllocError>
     ensures { OnOk result (out.new.items ≡ out.old.items ++ not_code) }
 {
     out.push(Instr::IsZero(ValType::I32))?;
@@ -257,7 +257,7 @@ fn push_is_zero(out: &mut Vec<Instr>) -> Result<(), AllocError>
 }
 
 /// Appends the code of `+`.
-fn push_sum(
+pub fn push_sum(
     left: IntTy,
     right: IntTy,
     to: IntTy,
@@ -284,7 +284,7 @@ fn push_sum(
 }
 
 /// Appends the code of `-`.
-fn push_difference(
+pub fn push_difference(
     left: IntTy,
     right: IntTy,
     to: IntTy,
@@ -420,7 +420,11 @@ fn half(ty: IntTy) -> i64
 }
 
 /// Appends the code of an operator whose result wraps around.
-fn push_wrapped(operator: BinaryOperator, to: IntTy, out: &mut Vec<Instr>) -> Result<(), AllocError>
+pub fn push_wrapped(
+    operator: BinaryOperator,
+    to: IntTy,
+    out: &mut Vec<Instr>,
+) -> Result<(), AllocError>
     requires narrow { IsNarrow to }
     ensures { OnOk result (out.new.items ≡ out.old.items ++ wrapped_code operator to) }
 {
