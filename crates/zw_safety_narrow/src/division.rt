@@ -12,6 +12,7 @@ use crate::compare::is_unsigned;
 use crate::operators::{
     INTEGER_OVERFLOW, extension, push_exact, push_extended, push_if_panics, push_in_range,
 };
+use crate::setting::Setting;
 use std::alloc::AllocError;
 use zw_num::IntTy;
 use zw_wasm::{BinaryOperator, Conversion, Instr, ValType};
@@ -20,30 +21,16 @@ use zw_wasm::{BinaryOperator, Conversion, Instr, ValType};
 const DIVIDE_BY_ZERO: u8 = 7;
 
 /// Appends the code of a quotient rounded toward zero.
-pub fn push_quotient(
-    left: IntTy,
-    right: IntTy,
-    to: IntTy,
-    scratch: u32,
-    out: &mut Vec<Instr>,
-) -> Result<(), AllocError>
-    requires narrow { IsNarrow to }
-    requires scratch { scratch ≤ GREATEST_SCRATCH }
-    ensures { OnOk result (out.new.items ≡ out.old.items ++ quotient_code left right to scratch) }
+pub fn push_quotient(setting: Setting, out: &mut Vec<Instr>) -> Result<(), AllocError>
+    requires narrow { IsNarrow setting.to }
+    requires scratch { setting.scratch ≤ GREATEST_SCRATCH }
+    ensures { OnOk result (out.new.items ≡ out.old.items ++ quotient_code setting.left setting.right setting.to setting.scratch) }
 {
-    push_divisor_tested(scratch, out)?;
-    if are_unsigned(left, right) && holds(to, left) {
+    push_divisor_tested(setting.scratch, out)?;
+    if are_unsigned(setting.left, setting.right) && holds(setting.to, setting.left) {
         out.push(Instr::Binary(ValType::I32, BinaryOperator::DivU))?;
     } else {
-        push_exact(
-            INTEGER_OVERFLOW,
-            BinaryOperator::DivS,
-            left,
-            right,
-            to,
-            scratch,
-            out,
-        )?;
+        push_exact(INTEGER_OVERFLOW, BinaryOperator::DivS, setting, out)?;
     }
     Ok(())
 }
@@ -87,43 +74,31 @@ pub fn push_modulo(
 }
 
 /// Appends the code of a quotient rounded down.
-pub fn push_floor(
-    left: IntTy,
-    right: IntTy,
-    to: IntTy,
-    scratch: u32,
-    out: &mut Vec<Instr>,
-) -> Result<(), AllocError>
-    requires narrow { IsNarrow to }
-    requires scratch { scratch ≤ GREATEST_SCRATCH }
-    ensures { OnOk result (out.new.items ≡ out.old.items ++ floor_code left right to scratch) }
+pub fn push_floor(setting: Setting, out: &mut Vec<Instr>) -> Result<(), AllocError>
+    requires narrow { IsNarrow setting.to }
+    requires scratch { setting.scratch ≤ GREATEST_SCRATCH }
+    ensures { OnOk result (out.new.items ≡ out.old.items ++ floor_code setting.left setting.right setting.to setting.scratch) }
 {
-    push_divisor_tested(scratch, out)?;
-    if are_unsigned(left, right) && holds(to, left) {
+    push_divisor_tested(setting.scratch, out)?;
+    if are_unsigned(setting.left, setting.right) && holds(setting.to, setting.left) {
         out.push(Instr::Binary(ValType::I32, BinaryOperator::DivU))?;
     } else {
-        push_floor_long(left, right, to, scratch, out)?;
+        push_floor_long(setting, out)?;
     }
     Ok(())
 }
 
 /// Appends the code of a quotient rounded down, in 64 bits.
-fn push_floor_long(
-    left: IntTy,
-    right: IntTy,
-    to: IntTy,
-    scratch: u32,
-    out: &mut Vec<Instr>,
-) -> Result<(), AllocError>
-    requires narrow { IsNarrow to }
-    requires scratch { scratch ≤ GREATEST_SCRATCH }
-    ensures { OnOk result (out.new.items ≡ out.old.items ++ floor_long left right to scratch) }
+fn push_floor_long(setting: Setting, out: &mut Vec<Instr>) -> Result<(), AllocError>
+    requires narrow { IsNarrow setting.to }
+    requires scratch { setting.scratch ≤ GREATEST_SCRATCH }
+    ensures { OnOk result (out.new.items ≡ out.old.items ++ floor_long setting.left setting.right setting.to setting.scratch) }
 {
-    push_both_kept(left, right, scratch, out)?;
-    push_floored_rest(scratch + 4, out)?;
-    push_whole_quotient(scratch + 4, out)?;
-    push_in_range(INTEGER_OVERFLOW, to, out)?;
-    out.push(Instr::LocalGet(scratch + 4))?;
+    push_both_kept(setting.left, setting.right, setting.scratch, out)?;
+    push_floored_rest(setting.scratch + 4, out)?;
+    push_whole_quotient(setting.scratch + 4, out)?;
+    push_in_range(INTEGER_OVERFLOW, setting.to, out)?;
+    out.push(Instr::LocalGet(setting.scratch + 4))?;
     out.push(Instr::Convert(Conversion::Wrap))?;
     Ok(())
 }

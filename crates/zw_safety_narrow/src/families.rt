@@ -62,55 +62,15 @@ fn push_arithmetic(
     ensures { OnOk result (out.new.items ≡ out.old.items ++ code_of_arithmetic operator setting) }
 {
     match operator {
-        Arithmetic::Add => push_sum(
-            setting.left,
-            setting.right,
-            setting.to,
-            setting.scratch,
-            out,
-        ),
-        Arithmetic::Sub => push_difference(
-            setting.left,
-            setting.right,
-            setting.to,
-            setting.scratch,
-            out,
-        ),
-        Arithmetic::Mul => push_exact(
-            INTEGER_OVERFLOW,
-            BinaryOperator::Mul,
-            setting.left,
-            setting.right,
-            setting.to,
-            setting.scratch,
-            out,
-        ),
+        Arithmetic::Add => push_sum(setting, out),
+        Arithmetic::Sub => push_difference(setting, out),
+        Arithmetic::Mul => push_exact(INTEGER_OVERFLOW, BinaryOperator::Mul, setting, out),
         Arithmetic::AddWrap => push_wrapped(BinaryOperator::Add, setting.to, out),
         Arithmetic::SubWrap => push_wrapped(BinaryOperator::Sub, setting.to, out),
         Arithmetic::MulWrap => push_wrapped(BinaryOperator::Mul, setting.to, out),
-        Arithmetic::AddSat => push_saturated(
-            BinaryOperator::Add,
-            setting.left,
-            setting.right,
-            setting.to,
-            setting.scratch,
-            out,
-        ),
-        Arithmetic::SubSat => push_saturated(
-            BinaryOperator::Sub,
-            setting.left,
-            setting.right,
-            setting.to,
-            setting.scratch,
-            out,
-        ),
-        Arithmetic::MulSat => push_saturated_product(
-            setting.left,
-            setting.right,
-            setting.to,
-            setting.scratch,
-            out,
-        ),
+        Arithmetic::AddSat => push_saturated(BinaryOperator::Add, setting, out),
+        Arithmetic::SubSat => push_saturated(BinaryOperator::Sub, setting, out),
+        Arithmetic::MulSat => push_saturated_product(setting, out),
     }
 }
 
@@ -125,35 +85,11 @@ fn push_division(
     ensures { OnOk result (out.new.items ≡ out.old.items ++ code_of_division operator setting) }
 {
     match operator {
-        Division::Div => push_quotient(
-            setting.left,
-            setting.right,
-            setting.to,
-            setting.scratch,
-            out,
-        ),
+        Division::Div => push_quotient(setting, out),
         Division::Rem => push_rest(setting.left, setting.right, setting.scratch, out),
-        Division::DivTrunc => push_quotient(
-            setting.left,
-            setting.right,
-            setting.to,
-            setting.scratch,
-            out,
-        ),
-        Division::DivFloor => push_floor(
-            setting.left,
-            setting.right,
-            setting.to,
-            setting.scratch,
-            out,
-        ),
-        Division::DivExact => push_exact_quotient(
-            setting.left,
-            setting.right,
-            setting.to,
-            setting.scratch,
-            out,
-        ),
+        Division::DivTrunc => push_quotient(setting, out),
+        Division::DivFloor => push_floor(setting, out),
+        Division::DivExact => push_exact_quotient(setting, out),
         Division::RemTrunc => push_rest(setting.left, setting.right, setting.scratch, out),
         Division::Mod => push_modulo(setting.left, setting.right, setting.scratch, out),
     }
@@ -178,34 +114,10 @@ fn push_shift(operator: Shift, setting: Setting, out: &mut Vec<Instr>) -> Result
 {
     match operator {
         Shift::Shl => push_left(setting.right, setting.to, setting.scratch, out),
-        Shift::Shr => push_right(
-            setting.left,
-            setting.right,
-            setting.to,
-            setting.scratch,
-            out,
-        ),
-        Shift::ShlSat => push_saturated_left(
-            setting.left,
-            setting.right,
-            setting.to,
-            setting.scratch,
-            out,
-        ),
-        Shift::ShlExact => push_left_exact(
-            setting.left,
-            setting.right,
-            setting.to,
-            setting.scratch,
-            out,
-        ),
-        Shift::ShrExact => push_right_exact(
-            setting.left,
-            setting.right,
-            setting.to,
-            setting.scratch,
-            out,
-        ),
+        Shift::Shr => push_right(setting, out),
+        Shift::ShlSat => push_saturated_left(setting, out),
+        Shift::ShlExact => push_left_exact(setting, out),
+        Shift::ShrExact => push_right_exact(setting, out),
     }
 }
 
