@@ -1,5 +1,5 @@
 -- The code of a family is the code of the tables that go by numbers, and so it is right.
-use Rattle.std.proofs.Common.{◌≡◌, ℕ, refl, sym, subst}
+use Rattle.std.proofs.Common.{◌≡◌, refl, sym, subst}
 use Rattle.zw_num.specs.declared.operator.Arithmetic.{Arithmetic}
 use Rattle.zw_num.specs.declared.operator.Arithmetic.TheVariants as arithmetic
 use Rattle.zw_num.specs.declared.operator.Division.{Division}
