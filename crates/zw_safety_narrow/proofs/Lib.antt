@@ -31,3 +31,4 @@ pub mod DigitSwaps
 pub mod ReversalRuns
 pub mod ReversalRight
 pub mod ServedRight
+pub mod FamiliesRight

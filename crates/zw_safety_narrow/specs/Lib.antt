@@ -12,3 +12,4 @@ pub mod ExactCode
 pub mod ReversalCode
 pub mod OperatorCode
 pub mod Operators
+pub mod Families

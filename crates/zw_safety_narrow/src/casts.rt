@@ -3,6 +3,7 @@ ghost use Rattle.std.specs.Prelude.{◌≡◌, ◌≤◌, ◌-◌, ◌/◌, ◌^
 ghost use Rattle.zw_num.specs.declared.int_ty.IntTy.TheVariants.{Sized};
 ghost use Rattle.zw_safety_narrow.specs.CastCode.{tested, above, outside, negative, cast_code, holds, truncated_code, negated, negated_code, opposite_code, turned_code, distance, distance_code};
 ghost use Rattle.zw_safety_narrow.specs.Operators.{IsNarrow};
+ghost use Rattle.zw_safety_narrow.specs.declared.setting.TheConstants.{GREATEST_SCRATCH};
 
 use crate::operators::{
     INTEGER_OVERFLOW, extension, half_power, mask, push_fitted, push_if_panics, push_in_range,
@@ -260,7 +261,7 @@ pub fn push_opposite(
     out: &mut Vec<Instr>,
 ) -> Result<(), AllocError>
     requires narrow { IsNarrow to }
-    requires scratch { scratch ≤ 4294967287 }
+    requires scratch { scratch ≤ GREATEST_SCRATCH }
     ensures { OnOk result (out.new.items ≡ out.old.items ++ opposite_code from to scratch) }
 {
     out.push(Instr::Convert(extension(from)))?;

@@ -1,6 +1,7 @@
 // The code of comparisons, and of the lesser and the greater of two numbers.
 ghost use Rattle.std.specs.Prelude.{◌≡◌, ◌≤◌, ◌++◌, OnOk};
 ghost use Rattle.zw_safety_narrow.specs.CompareCode.{fits_signed, is_unsigned, comparison_code, doubled, choice_code};
+ghost use Rattle.zw_safety_narrow.specs.declared.setting.TheConstants.{GREATEST_SCRATCH};
 
 use crate::operators::push_extended;
 use std::alloc::AllocError;
@@ -16,7 +17,7 @@ pub fn push_comparison(
     scratch: u32,
     out: &mut Vec<Instr>,
 ) -> Result<(), AllocError>
-    requires { scratch ≤ 4294967287 }
+    requires { scratch ≤ GREATEST_SCRATCH }
     ensures { OnOk result (out.new.items ≡ out.old.items ++ comparison_code signed unsigned left right scratch) }
 {
     if fits_signed(left) && fits_signed(right) {
@@ -39,7 +40,7 @@ pub fn push_choice(
     scratch: u32,
     out: &mut Vec<Instr>,
 ) -> Result<(), AllocError>
-    requires { scratch ≤ 4294967287 }
+    requires { scratch ≤ GREATEST_SCRATCH }
     ensures { OnOk result (out.new.items ≡ out.old.items ++ choice_code signed unsigned left right scratch) }
 {
     push_doubled(scratch, out)?;
@@ -50,7 +51,7 @@ pub fn push_choice(
 
 /// Appends code that keeps both operands, and leaves both twice.
 pub fn push_doubled(scratch: u32, out: &mut Vec<Instr>) -> Result<(), AllocError>
-    requires { scratch ≤ 4294967287 }
+    requires { scratch ≤ GREATEST_SCRATCH }
     ensures { OnOk result (out.new.items ≡ out.old.items ++ doubled scratch) }
 {
     out.push(Instr::LocalSet(scratch))?;

@@ -5,12 +5,14 @@ ghost use Rattle.zw_safety_narrow.specs.CompareCode.{is_unsigned};
 ghost use Rattle.zw_safety_narrow.specs.DivisionCode.{divisor_tested, are_unsigned, quotient_code, rest_code};
 ghost use Rattle.zw_safety_narrow.specs.FloorCode.{floored_rest, modulo_code, both_kept, whole_quotient, floor_long, floor_code};
 ghost use Rattle.zw_safety_narrow.specs.Operators.{IsNarrow};
+ghost use Rattle.zw_safety_narrow.specs.declared.setting.TheConstants.{GREATEST_SCRATCH};
 
 use crate::casts::holds;
 use crate::compare::is_unsigned;
 use crate::operators::{
     INTEGER_OVERFLOW, extension, push_exact, push_extended, push_if_panics, push_in_range,
 };
+use crate::setting::Setting;
 use std::alloc::AllocError;
 use zw_num::IntTy;
 use zw_wasm::{BinaryOperator, Conversion, Instr, ValType};
@@ -19,30 +21,16 @@ use zw_wasm::{BinaryOperator, Conversion, Instr, ValType};
 const DIVIDE_BY_ZERO: u8 = 7;
 
 /// Appends the code of a quotient rounded toward zero.
-pub fn push_quotient(
-    left: IntTy,
-    right: IntTy,
-    to: IntTy,
-    scratch: u32,
-    out: &mut Vec<Instr>,
-) -> Result<(), AllocError>
-    requires narrow { IsNarrow to }
-    requires scratch { scratch ≤ 4294967287 }
-    ensures { OnOk result (out.new.items ≡ out.old.items ++ quotient_code left right to scratch) }
+pub fn push_quotient(setting: Setting, out: &mut Vec<Instr>) -> Result<(), AllocError>
+    requires narrow { IsNarrow setting.to }
+    requires scratch { setting.scratch ≤ GREATEST_SCRATCH }
+    ensures { OnOk result (out.new.items ≡ out.old.items ++ quotient_code setting.left setting.right setting.to setting.scratch) }
 {
-    push_divisor_tested(scratch, out)?;
-    if are_unsigned(left, right) && holds(to, left) {
+    push_divisor_tested(setting.scratch, out)?;
+    if are_unsigned(setting.left, setting.right) && holds(setting.to, setting.left) {
         out.push(Instr::Binary(ValType::I32, BinaryOperator::DivU))?;
     } else {
-        push_exact(
-            INTEGER_OVERFLOW,
-            BinaryOperator::DivS,
-            left,
-            right,
-            to,
-            scratch,
-            out,
-        )?;
+        push_exact(INTEGER_OVERFLOW, BinaryOperator::DivS, setting, out)?;
     }
     Ok(())
 }
@@ -54,7 +42,7 @@ pub fn push_rest(
     scratch: u32,
     out: &mut Vec<Instr>,
 ) -> Result<(), AllocError>
-    requires { scratch ≤ 4294967287 }
+    requires { scratch ≤ GREATEST_SCRATCH }
     ensures { OnOk result (out.new.items ≡ out.old.items ++ rest_code left right scratch) }
 {
     push_divisor_tested(scratch, out)?;
@@ -75,7 +63,7 @@ pub fn push_modulo(
     scratch: u32,
     out: &mut Vec<Instr>,
 ) -> Result<(), AllocError>
-    requires { scratch ≤ 4294967287 }
+    requires { scratch ≤ GREATEST_SCRATCH }
     ensures { OnOk result (out.new.items ≡ out.old.items ++ modulo_code left right scratch) }
 {
     push_divisor_tested(scratch, out)?;
@@ -86,43 +74,31 @@ pub fn push_modulo(
 }
 
 /// Appends the code of a quotient rounded down.
-pub fn push_floor(
-    left: IntTy,
-    right: IntTy,
-    to: IntTy,
-    scratch: u32,
-    out: &mut Vec<Instr>,
-) -> Result<(), AllocError>
-    requires narrow { IsNarrow to }
-    requires scratch { scratch ≤ 4294967287 }
-    ensures { OnOk result (out.new.items ≡ out.old.items ++ floor_code left right to scratch) }
+pub fn push_floor(setting: Setting, out: &mut Vec<Instr>) -> Result<(), AllocError>
+    requires narrow { IsNarrow setting.to }
+    requires scratch { setting.scratch ≤ GREATEST_SCRATCH }
+    ensures { OnOk result (out.new.items ≡ out.old.items ++ floor_code setting.left setting.right setting.to setting.scratch) }
 {
-    push_divisor_tested(scratch, out)?;
-    if are_unsigned(left, right) && holds(to, left) {
+    push_divisor_tested(setting.scratch, out)?;
+    if are_unsigned(setting.left, setting.right) && holds(setting.to, setting.left) {
         out.push(Instr::Binary(ValType::I32, BinaryOperator::DivU))?;
     } else {
-        push_floor_long(left, right, to, scratch, out)?;
+        push_floor_long(setting, out)?;
     }
     Ok(())
 }
 
 /// Appends the code of a quotient rounded down, in 64 bits.
-fn push_floor_long(
-    left: IntTy,
-    right: IntTy,
-    to: IntTy,
-    scratch: u32,
-    out: &mut Vec<Instr>,
-) -> Result<(), AllocError>
-    requires narrow { IsNarrow to }
-    requires scratch { scratch ≤ 4294967287 }
-    ensures { OnOk result (out.new.items ≡ out.old.items ++ floor_long left right to scratch) }
+fn push_floor_long(setting: Setting, out: &mut Vec<Instr>) -> Result<(), AllocError>
+    requires narrow { IsNarrow setting.to }
+    requires scratch { setting.scratch ≤ GREATEST_SCRATCH }
+    ensures { OnOk result (out.new.items ≡ out.old.items ++ floor_long setting.left setting.right setting.to setting.scratch) }
 {
-    push_both_kept(left, right, scratch, out)?;
-    push_floored_rest(scratch + 4, out)?;
-    push_whole_quotient(scratch + 4, out)?;
-    push_in_range(INTEGER_OVERFLOW, to, out)?;
-    out.push(Instr::LocalGet(scratch + 4))?;
+    push_both_kept(setting.left, setting.right, setting.scratch, out)?;
+    push_floored_rest(setting.scratch + 4, out)?;
+    push_whole_quotient(setting.scratch + 4, out)?;
+    push_in_range(INTEGER_OVERFLOW, setting.to, out)?;
+    out.push(Instr::LocalGet(setting.scratch + 4))?;
     out.push(Instr::Convert(Conversion::Wrap))?;
     Ok(())
 }
@@ -134,7 +110,7 @@ pub fn push_both_kept(
     scratch: u32,
     out: &mut Vec<Instr>,
 ) -> Result<(), AllocError>
-    requires { scratch ≤ 4294967287 }
+    requires { scratch ≤ GREATEST_SCRATCH }
     ensures { OnOk result (out.new.items ≡ out.old.items ++ both_kept left right scratch) }
 {
     out.push(Instr::Convert(extension(right)))?;

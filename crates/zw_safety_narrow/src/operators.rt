@@ -6,6 +6,7 @@ ghost use Rattle.zw_safety_narrow.specs.NarrowCode.{extension, above_least, exte
 ghost use Rattle.zw_safety_narrow.specs.OperatorCode.{word_code, not_code, code_of_counts, code_of_reversals, code_of_one, code_of_bounds, code_of_exact, code_of_order, code_of_shares, operator_code};
 ghost use Rattle.zw_safety_narrow.specs.Operators.{IsNarrow};
 ghost use Rattle.zw_num.specs.declared.int_ty.IntTy.TheVariants.{Sized};
+ghost use Rattle.zw_safety_narrow.specs.declared.setting.TheConstants.{GREATEST_SCRATCH};
 
 use crate::casts::{
     push_cast, push_distance, push_negated_wrapped, push_opposite, push_truncated, push_turned,
@@ -16,6 +17,7 @@ use crate::division::{push_floor, push_modulo, push_quotient, push_rest};
 use crate::exact::{push_exact_quotient, push_left_exact, push_right_exact};
 use crate::reversal::{push_bit_reverse, push_byte_swap};
 use crate::saturating::{push_saturated, push_saturated_left, push_saturated_product};
+use crate::setting::Setting;
 use crate::shifts::{push_left, push_right};
 use std::alloc::AllocError;
 use zw_num::IntTy;
@@ -43,55 +45,46 @@ pub fn push_operator(
 ) -> Result<(), AllocError>
     requires from_narrow { IsNarrow left }
     requires to_narrow { IsNarrow to }
-    requires scratch { scratch ≤ 4294967287 }
+    requires scratch { scratch ≤ GREATEST_SCRATCH }
     ensures { OnOk result (out.new.items ≡ out.old.items ++ operator_code op left right to scratch) }
 {
+    let setting = Setting {
+        left,
+        right,
+        to,
+        scratch,
+    };
     match op {
-        ADD => push_sum(left, right, to, scratch, out),
-        SUB => push_difference(left, right, to, scratch, out),
-        MUL => push_exact(
-            INTEGER_OVERFLOW,
-            BinaryOperator::Mul,
-            left,
-            right,
-            to,
-            scratch,
-            out,
-        ),
+        ADD => push_sum(setting, out),
+        SUB => push_difference(setting, out),
+        MUL => push_exact(INTEGER_OVERFLOW, BinaryOperator::Mul, setting, out),
         ADD_WRAP => push_wrapped(BinaryOperator::Add, to, out),
         SUB_WRAP => push_wrapped(BinaryOperator::Sub, to, out),
         MUL_WRAP => push_wrapped(BinaryOperator::Mul, to, out),
         BIT_AND => push_word(BinaryOperator::And, out),
         BIT_OR => push_word(BinaryOperator::Or, out),
         BIT_XOR => push_word(BinaryOperator::Xor, out),
-        _ => push_bounds(op, left, right, to, scratch, out),
+        _ => push_bounds(op, setting, out),
     }
 }
 
 /// Appends the code of a sum, difference or product that stops at the bounds of its type.
-fn push_bounds(
-    op: u16,
-    left: IntTy,
-    right: IntTy,
-    to: IntTy,
-    scratch: u32,
-    out: &mut Vec<Instr>,
-) -> Result<(), AllocError>
-    requires from_narrow { IsNarrow left }
-    requires to_narrow { IsNarrow to }
-    requires scratch { scratch ≤ 4294967287 }
-    ensures { OnOk result (out.new.items ≡ out.old.items ++ code_of_bounds op left right to scratch) }
+fn push_bounds(op: u16, setting: Setting, out: &mut Vec<Instr>) -> Result<(), AllocError>
+    requires from_narrow { IsNarrow setting.left }
+    requires to_narrow { IsNarrow setting.to }
+    requires scratch { setting.scratch ≤ GREATEST_SCRATCH }
+    ensures { OnOk result (out.new.items ≡ out.old.items ++ code_of_bounds op setting.left setting.right setting.to setting.scratch) }
 {
     match op {
-        ADD_SAT => push_saturated(BinaryOperator::Add, left, right, to, scratch, out),
-        SUB_SAT => push_saturated(BinaryOperator::Sub, left, right, to, scratch, out),
-        MUL_SAT => push_saturated_product(left, right, to, scratch, out),
-        _ => push_order(op, left, right, to, scratch, out),
+        ADD_SAT => push_saturated(BinaryOperator::Add, setting, out),
+        SUB_SAT => push_saturated(BinaryOperator::Sub, setting, out),
+        MUL_SAT => push_saturated_product(setting, out),
+        _ => push_order(op, setting, out),
     }
 }
 
 /// Appends an operator on 32 bits.
-fn push_word(operator: BinaryOperator, out: &mut Vec<Instr>) -> Result<(), AllocError>
+pub fn push_word(operator: BinaryOperator, out: &mut Vec<Instr>) -> Result<(), AllocError>
     ensures { OnOk result (out.new.items ≡ out.old.items ++ word_code operator) }
 {
     out.push(Instr::Binary(ValType::I32, operator))?;
@@ -99,93 +92,114 @@ fn push_word(operator: BinaryOperator, out: &mut Vec<Instr>) -> Result<(), Alloc
 }
 
 /// Appends the code of a comparison, or of the lesser or the greater of two.
-fn push_order(
-    op: u16,
-    left: IntTy,
-    right: IntTy,
-    to: IntTy,
-    scratch: u32,
-    out: &mut Vec<Instr>,
-) -> Result<(), AllocError>
-    requires from_narrow { IsNarrow left }
-    requires to_narrow { IsNarrow to }
-    requires scratch { scratch ≤ 4294967287 }
-    ensures { OnOk result (out.new.items ≡ out.old.items ++ code_of_order op left right to scratch) }
+fn push_order(op: u16, setting: Setting, out: &mut Vec<Instr>) -> Result<(), AllocError>
+    requires from_narrow { IsNarrow setting.left }
+    requires to_narrow { IsNarrow setting.to }
+    requires scratch { setting.scratch ≤ GREATEST_SCRATCH }
+    ensures { OnOk result (out.new.items ≡ out.old.items ++ code_of_order op setting.left setting.right setting.to setting.scratch) }
 {
     match op {
-        EQUAL => push_comparison(Comparison::Eq, Comparison::Eq, left, right, scratch, out),
-        NOT_EQUAL => push_comparison(Comparison::Ne, Comparison::Ne, left, right, scratch, out),
-        LESS => push_comparison(Comparison::LtS, Comparison::LtU, left, right, scratch, out),
+        EQUAL => push_comparison(
+            Comparison::Eq,
+            Comparison::Eq,
+            setting.left,
+            setting.right,
+            setting.scratch,
+            out,
+        ),
+        NOT_EQUAL => push_comparison(
+            Comparison::Ne,
+            Comparison::Ne,
+            setting.left,
+            setting.right,
+            setting.scratch,
+            out,
+        ),
+        LESS => push_comparison(
+            Comparison::LtS,
+            Comparison::LtU,
+            setting.left,
+            setting.right,
+            setting.scratch,
+            out,
+        ),
         LESS_OR_EQUAL => push_comparison(
             Comparison::LeS,
             Comparison::LeU,
-            left,
-            right,
-            scratch,
+            setting.left,
+            setting.right,
+            setting.scratch,
             out,
         ),
-        GREATER => push_comparison(Comparison::GtS, Comparison::GtU, left, right, scratch, out),
+        GREATER => push_comparison(
+            Comparison::GtS,
+            Comparison::GtU,
+            setting.left,
+            setting.right,
+            setting.scratch,
+            out,
+        ),
         GREATER_OR_EQUAL => push_comparison(
             Comparison::GeS,
             Comparison::GeU,
-            left,
-            right,
-            scratch,
+            setting.left,
+            setting.right,
+            setting.scratch,
             out,
         ),
-        MIN => push_choice(Comparison::LtS, Comparison::LtU, left, right, scratch, out),
-        MAX => push_choice(Comparison::GtS, Comparison::GtU, left, right, scratch, out),
-        _ => push_shares(op, left, right, to, scratch, out),
+        MIN => push_choice(
+            Comparison::LtS,
+            Comparison::LtU,
+            setting.left,
+            setting.right,
+            setting.scratch,
+            out,
+        ),
+        MAX => push_choice(
+            Comparison::GtS,
+            Comparison::GtU,
+            setting.left,
+            setting.right,
+            setting.scratch,
+            out,
+        ),
+        _ => push_shares(op, setting, out),
     }
 }
 
 /// Appends the code of a shift, a quotient or a rest.
-fn push_shares(
-    op: u16,
-    left: IntTy,
-    right: IntTy,
-    to: IntTy,
-    scratch: u32,
-    out: &mut Vec<Instr>,
-) -> Result<(), AllocError>
-    requires from_narrow { IsNarrow left }
-    requires to_narrow { IsNarrow to }
-    requires scratch { scratch ≤ 4294967287 }
-    ensures { OnOk result (out.new.items ≡ out.old.items ++ code_of_shares op left right to scratch) }
+fn push_shares(op: u16, setting: Setting, out: &mut Vec<Instr>) -> Result<(), AllocError>
+    requires from_narrow { IsNarrow setting.left }
+    requires to_narrow { IsNarrow setting.to }
+    requires scratch { setting.scratch ≤ GREATEST_SCRATCH }
+    ensures { OnOk result (out.new.items ≡ out.old.items ++ code_of_shares op setting.left setting.right setting.to setting.scratch) }
 {
     match op {
-        SHL => push_left(right, to, scratch, out),
-        SHR => push_right(left, right, to, scratch, out),
-        DIV => push_quotient(left, right, to, scratch, out),
-        REM => push_rest(left, right, scratch, out),
-        DIV_TRUNC => push_quotient(left, right, to, scratch, out),
-        REM_TRUNC => push_rest(left, right, scratch, out),
-        MOD => push_modulo(left, right, scratch, out),
-        DIV_FLOOR => push_floor(left, right, to, scratch, out),
-        _ => push_exacts(op, left, right, to, scratch, out),
+        SHL => push_left(setting.right, setting.to, setting.scratch, out),
+        SHR => push_right(setting, out),
+        DIV => push_quotient(setting, out),
+        REM => push_rest(setting.left, setting.right, setting.scratch, out),
+        DIV_TRUNC => push_quotient(setting, out),
+        REM_TRUNC => push_rest(setting.left, setting.right, setting.scratch, out),
+        MOD => push_modulo(setting.left, setting.right, setting.scratch, out),
+        DIV_FLOOR => push_floor(setting, out),
+        _ => push_exacts(op, setting, out),
     }
 }
 
 /// Appends the code of an exact quotient or shift, or of the shift that stops at the bounds of its type.
-fn push_exacts(
-    op: u16,
-    left: IntTy,
-    right: IntTy,
-    to: IntTy,
-    scratch: u32,
-    out: &mut Vec<Instr>,
-) -> Result<(), AllocError>
-    requires from_narrow { IsNarrow left }
-    requires to_narrow { IsNarrow to }
-    requires scratch { scratch ≤ 4294967287 }
-    ensures { OnOk result (out.new.items ≡ out.old.items ++ code_of_exact op left right to scratch) }
+fn push_exacts(op: u16, setting: Setting, out: &mut Vec<Instr>) -> Result<(), AllocError>
+    requires from_narrow { IsNarrow setting.left }
+    requires to_narrow { IsNarrow setting.to }
+    requires scratch { setting.scratch ≤ GREATEST_SCRATCH }
+    ensures { OnOk result (out.new.items ≡ out.old.items ++ code_of_exact op setting.left setting.right setting.to setting.scratch) }
 {
     match op {
-        DIV_EXACT => push_exact_quotient(left, right, to, scratch, out),
-        SHL_EXACT => push_left_exact(left, right, to, scratch, out),
-        SHR_EXACT => push_right_exact(left, right, to, scratch, out),
-        SHL_SAT => push_saturated_left(left, right, to, scratch, out),
-        _ => push_of_one(op, left, to, scratch, out),
+        DIV_EXACT => push_exact_quotient(setting, out),
+        SHL_EXACT => push_left_exact(setting, out),
+        SHR_EXACT => push_right_exact(setting, out),
+        SHL_SAT => push_saturated_left(setting, out),
+        _ => push_of_one(op, setting.left, setting.to, setting.scratch, out),
     }
 }
 
@@ -199,7 +213,7 @@ fn push_of_one(
 ) -> Result<(), AllocError>
     requires from_narrow { IsNarrow from }
     requires to_narrow { IsNarrow to }
-    requires scratch { scratch ≤ 4294967287 }
+    requires scratch { scratch ≤ GREATEST_SCRATCH }
     ensures { OnOk result (out.new.items ≡ out.old.items ++ code_of_one op from to scratch) }
 {
     match op {
@@ -225,7 +239,7 @@ fn push_reversals(
 ) -> Result<(), AllocError>
     requires from_narrow { IsNarrow from }
     requires to_narrow { IsNarrow to }
-    requires scratch { scratch ≤ 4294967287 }
+    requires scratch { scratch ≤ GREATEST_SCRATCH }
     ensures { OnOk result (out.new.items ≡ out.old.items ++ code_of_reversals op from to scratch) }
 {
     match op {
@@ -248,7 +262,7 @@ fn push_counts(op: u16, from: IntTy, scratch: u32, out: &mut Vec<Instr>) -> Resu
 }
 
 /// Appends the test whether an operand is 0.
-fn push_is_zero(out: &mut Vec<Instr>) -> Result<(), AllocError>
+pub fn push_is_zero(out: &mut Vec<Instr>) -> Result<(), AllocError>
     ensures { OnOk result (out.new.items ≡ out.old.items ++ not_code) }
 {
     out.push(Instr::IsZero(ValType::I32))?;
@@ -256,56 +270,28 @@ fn push_is_zero(out: &mut Vec<Instr>) -> Result<(), AllocError>
 }
 
 /// Appends the code of `+`.
-fn push_sum(
-    left: IntTy,
-    right: IntTy,
-    to: IntTy,
-    scratch: u32,
-    out: &mut Vec<Instr>,
-) -> Result<(), AllocError>
-    requires narrow { IsNarrow to }
-    requires scratch { scratch ≤ 4294967287 }
-    ensures { OnOk result (out.new.items ≡ out.old.items ++ sum_code left right to scratch) }
+pub fn push_sum(setting: Setting, out: &mut Vec<Instr>) -> Result<(), AllocError>
+    requires narrow { IsNarrow setting.to }
+    requires scratch { setting.scratch ≤ GREATEST_SCRATCH }
+    ensures { OnOk result (out.new.items ≡ out.old.items ++ sum_code setting.left setting.right setting.to setting.scratch) }
 {
-    if is_u32(left) && is_u32(right) && is_u32(to) {
-        push_add(scratch, out)
+    if is_u32(setting.left) && is_u32(setting.right) && is_u32(setting.to) {
+        push_add(setting.scratch, out)
     } else {
-        push_exact(
-            INTEGER_OVERFLOW,
-            BinaryOperator::Add,
-            left,
-            right,
-            to,
-            scratch,
-            out,
-        )
+        push_exact(INTEGER_OVERFLOW, BinaryOperator::Add, setting, out)
     }
 }
 
 /// Appends the code of `-`.
-fn push_difference(
-    left: IntTy,
-    right: IntTy,
-    to: IntTy,
-    scratch: u32,
-    out: &mut Vec<Instr>,
-) -> Result<(), AllocError>
-    requires narrow { IsNarrow to }
-    requires scratch { scratch ≤ 4294967287 }
-    ensures { OnOk result (out.new.items ≡ out.old.items ++ difference_code left right to scratch) }
+pub fn push_difference(setting: Setting, out: &mut Vec<Instr>) -> Result<(), AllocError>
+    requires narrow { IsNarrow setting.to }
+    requires scratch { setting.scratch ≤ GREATEST_SCRATCH }
+    ensures { OnOk result (out.new.items ≡ out.old.items ++ difference_code setting.left setting.right setting.to setting.scratch) }
 {
-    if is_u32(left) && is_u32(right) && is_u32(to) {
-        push_sub(scratch, out)
+    if is_u32(setting.left) && is_u32(setting.right) && is_u32(setting.to) {
+        push_sub(setting.scratch, out)
     } else {
-        push_exact(
-            INTEGER_OVERFLOW,
-            BinaryOperator::Sub,
-            left,
-            right,
-            to,
-            scratch,
-            out,
-        )
+        push_exact(INTEGER_OVERFLOW, BinaryOperator::Sub, setting, out)
     }
 }
 
@@ -326,22 +312,19 @@ fn is_u32(ty: IntTy) -> bool
 pub fn push_exact(
     cause: u8,
     operator: BinaryOperator,
-    left: IntTy,
-    right: IntTy,
-    to: IntTy,
-    scratch: u32,
+    setting: Setting,
     out: &mut Vec<Instr>,
 ) -> Result<(), AllocError>
-    requires narrow { IsNarrow to }
-    requires scratch { scratch ≤ 4294967287 }
-    ensures { OnOk result (out.new.items ≡ out.old.items ++ exact_code_or cause operator left right to scratch) }
+    requires narrow { IsNarrow setting.to }
+    requires scratch { setting.scratch ≤ GREATEST_SCRATCH }
+    ensures { OnOk result (out.new.items ≡ out.old.items ++ exact_code_or cause operator setting.left setting.right setting.to setting.scratch) }
 {
-    push_extended(left, right, scratch, out)?;
+    push_extended(setting.left, setting.right, setting.scratch, out)?;
     out.push(Instr::Binary(ValType::I64, operator))?;
-    out.push(Instr::LocalSet(scratch + 4))?;
-    out.push(Instr::LocalGet(scratch + 4))?;
-    push_in_range(cause, to, out)?;
-    out.push(Instr::LocalGet(scratch + 4))?;
+    out.push(Instr::LocalSet(setting.scratch + 4))?;
+    out.push(Instr::LocalGet(setting.scratch + 4))?;
+    push_in_range(cause, setting.to, out)?;
+    out.push(Instr::LocalGet(setting.scratch + 4))?;
     out.push(Instr::Convert(Conversion::Wrap))?;
     Ok(())
 }
@@ -353,7 +336,7 @@ pub fn push_extended(
     scratch: u32,
     out: &mut Vec<Instr>,
 ) -> Result<(), AllocError>
-    requires { scratch ≤ 4294967287 }
+    requires { scratch ≤ GREATEST_SCRATCH }
     ensures { OnOk result (out.new.items ≡ out.old.items ++ extended left right scratch) }
 {
     out.push(Instr::Convert(extension(right)))?;
@@ -419,7 +402,11 @@ fn half(ty: IntTy) -> i64
 }
 
 /// Appends the code of an operator whose result wraps around.
-fn push_wrapped(operator: BinaryOperator, to: IntTy, out: &mut Vec<Instr>) -> Result<(), AllocError>
+pub fn push_wrapped(
+    operator: BinaryOperator,
+    to: IntTy,
+    out: &mut Vec<Instr>,
+) -> Result<(), AllocError>
     requires narrow { IsNarrow to }
     ensures { OnOk result (out.new.items ≡ out.old.items ++ wrapped_code operator to) }
 {
@@ -500,7 +487,7 @@ pub fn mask(bits: u8) -> i32
 
 /// Appends the code of `+` on `u32`.
 fn push_add(scratch: u32, out: &mut Vec<Instr>) -> Result<(), AllocError>
-    requires { scratch ≤ 4294967287 }
+    requires { scratch ≤ GREATEST_SCRATCH }
     ensures { OnOk result (out.new.items ≡ out.old.items ++ add_code scratch) }
 {
     push_kept(scratch, out)?;
@@ -514,7 +501,7 @@ fn push_add(scratch: u32, out: &mut Vec<Instr>) -> Result<(), AllocError>
 
 /// Appends the code of `-` on `u32`.
 fn push_sub(scratch: u32, out: &mut Vec<Instr>) -> Result<(), AllocError>
-    requires { scratch ≤ 4294967287 }
+    requires { scratch ≤ GREATEST_SCRATCH }
     ensures { OnOk result (out.new.items ≡ out.old.items ++ sub_code scratch) }
 {
     push_kept(scratch, out)?;
@@ -528,7 +515,7 @@ fn push_sub(scratch: u32, out: &mut Vec<Instr>) -> Result<(), AllocError>
 
 /// Appends code that keeps both operands, and leaves them.
 fn push_kept(scratch: u32, out: &mut Vec<Instr>) -> Result<(), AllocError>
-    requires { scratch ≤ 4294967287 }
+    requires { scratch ≤ GREATEST_SCRATCH }
     ensures { OnOk result (out.new.items ≡ out.old.items ++ kept scratch) }
 {
     out.push(Instr::LocalSet(scratch))?;

@@ -3,11 +3,13 @@ ghost use Rattle.std.specs.Prelude.{◌≡◌, ◌≤◌, ◌++◌, OnOk};
 ghost use Rattle.zw_num.specs.Arithmetic.{least, greatest};
 ghost use Rattle.zw_safety_narrow.specs.Operators.{IsNarrow};
 ghost use Rattle.zw_safety_narrow.specs.SaturatingCode.{bounded, saturated_code, natural_code, saturated_product_code, bounded_amount, saturated_left_code};
+ghost use Rattle.zw_safety_narrow.specs.declared.setting.TheConstants.{GREATEST_SCRATCH};
 
 use crate::compare::is_unsigned;
 use crate::counts::push_at_most;
 use crate::division::are_unsigned;
 use crate::operators::push_extended;
+use crate::setting::Setting;
 use crate::shifts::width;
 use std::alloc::AllocError;
 use zw_num::IntTy;
@@ -16,60 +18,45 @@ use zw_wasm::{BinaryOperator, Comparison, Conversion, Instr, ValType};
 /// Appends the code of an operator whose exact result in 64 bits has a sign.
 pub fn push_saturated(
     operator: BinaryOperator,
-    left: IntTy,
-    right: IntTy,
-    to: IntTy,
-    scratch: u32,
+    setting: Setting,
     out: &mut Vec<Instr>,
 ) -> Result<(), AllocError>
-    requires narrow { IsNarrow to }
-    requires scratch { scratch ≤ 4294967287 }
-    ensures { OnOk result (out.new.items ≡ out.old.items ++ saturated_code operator left right to scratch) }
+    requires narrow { IsNarrow setting.to }
+    requires scratch { setting.scratch ≤ GREATEST_SCRATCH }
+    ensures { OnOk result (out.new.items ≡ out.old.items ++ saturated_code operator setting.left setting.right setting.to setting.scratch) }
 {
-    push_extended(left, right, scratch, out)?;
+    push_extended(setting.left, setting.right, setting.scratch, out)?;
     out.push(Instr::Binary(ValType::I64, operator))?;
-    push_topped(Comparison::LtS, to, scratch, out)?;
-    push_bottomed(to, scratch, out)?;
+    push_topped(Comparison::LtS, setting.to, setting.scratch, out)?;
+    push_bottomed(setting.to, setting.scratch, out)?;
     out.push(Instr::Convert(Conversion::Wrap))?;
     Ok(())
 }
 
 /// Appends the code of `*|`.
-pub fn push_saturated_product(
-    left: IntTy,
-    right: IntTy,
-    to: IntTy,
-    scratch: u32,
-    out: &mut Vec<Instr>,
-) -> Result<(), AllocError>
-    requires narrow { IsNarrow to }
-    requires scratch { scratch ≤ 4294967287 }
-    ensures { OnOk result (out.new.items ≡ out.old.items ++ saturated_product_code left right to scratch) }
+pub fn push_saturated_product(setting: Setting, out: &mut Vec<Instr>) -> Result<(), AllocError>
+    requires narrow { IsNarrow setting.to }
+    requires scratch { setting.scratch ≤ GREATEST_SCRATCH }
+    ensures { OnOk result (out.new.items ≡ out.old.items ++ saturated_product_code setting.left setting.right setting.to setting.scratch) }
 {
-    if are_unsigned(left, right) {
-        push_natural(BinaryOperator::Mul, left, right, to, scratch, out)
+    if are_unsigned(setting.left, setting.right) {
+        push_natural(BinaryOperator::Mul, setting, out)
     } else {
-        push_saturated(BinaryOperator::Mul, left, right, to, scratch, out)
+        push_saturated(BinaryOperator::Mul, setting, out)
     }
 }
 
 /// Appends the code of `<<|`.
-pub fn push_saturated_left(
-    left: IntTy,
-    right: IntTy,
-    to: IntTy,
-    scratch: u32,
-    out: &mut Vec<Instr>,
-) -> Result<(), AllocError>
-    requires narrow { IsNarrow to }
-    requires scratch { scratch ≤ 4294967287 }
-    ensures { OnOk result (out.new.items ≡ out.old.items ++ saturated_left_code left right to scratch) }
+pub fn push_saturated_left(setting: Setting, out: &mut Vec<Instr>) -> Result<(), AllocError>
+    requires narrow { IsNarrow setting.to }
+    requires scratch { setting.scratch ≤ GREATEST_SCRATCH }
+    ensures { OnOk result (out.new.items ≡ out.old.items ++ saturated_left_code setting.left setting.right setting.to setting.scratch) }
 {
-    push_bounded_amount(right, scratch, out)?;
-    if is_unsigned(left) {
-        push_natural(BinaryOperator::Shl, left, right, to, scratch, out)
+    push_bounded_amount(setting.right, setting.scratch, out)?;
+    if is_unsigned(setting.left) {
+        push_natural(BinaryOperator::Shl, setting, out)
     } else {
-        push_saturated(BinaryOperator::Shl, left, right, to, scratch, out)
+        push_saturated(BinaryOperator::Shl, setting, out)
     }
 }
 
@@ -87,19 +74,16 @@ fn push_bounded_amount(right: IntTy, scratch: u32, out: &mut Vec<Instr>) -> Resu
 /// Appends the code of an operator whose exact result in 64 bits isn't negative.
 fn push_natural(
     operator: BinaryOperator,
-    left: IntTy,
-    right: IntTy,
-    to: IntTy,
-    scratch: u32,
+    setting: Setting,
     out: &mut Vec<Instr>,
 ) -> Result<(), AllocError>
-    requires narrow { IsNarrow to }
-    requires scratch { scratch ≤ 4294967287 }
-    ensures { OnOk result (out.new.items ≡ out.old.items ++ natural_code operator left right to scratch) }
+    requires narrow { IsNarrow setting.to }
+    requires scratch { setting.scratch ≤ GREATEST_SCRATCH }
+    ensures { OnOk result (out.new.items ≡ out.old.items ++ natural_code operator setting.left setting.right setting.to setting.scratch) }
 {
-    push_extended(left, right, scratch, out)?;
+    push_extended(setting.left, setting.right, setting.scratch, out)?;
     out.push(Instr::Binary(ValType::I64, operator))?;
-    push_topped(Comparison::LtU, to, scratch, out)?;
+    push_topped(Comparison::LtU, setting.to, setting.scratch, out)?;
     out.push(Instr::Convert(Conversion::Wrap))?;
     Ok(())
 }
@@ -112,7 +96,7 @@ fn push_topped(
     out: &mut Vec<Instr>,
 ) -> Result<(), AllocError>
     requires narrow { IsNarrow to }
-    requires scratch { scratch ≤ 4294967287 }
+    requires scratch { scratch ≤ GREATEST_SCRATCH }
     ensures { OnOk result (out.new.items ≡ out.old.items ++ bounded comparison (greatest to) scratch) }
 {
     out.push(Instr::LocalTee(scratch + 4))?;
@@ -127,7 +111,7 @@ fn push_topped(
 /// Appends code that leaves its operand, or the least value of the type where it isn't greater.
 fn push_bottomed(to: IntTy, scratch: u32, out: &mut Vec<Instr>) -> Result<(), AllocError>
     requires narrow { IsNarrow to }
-    requires scratch { scratch ≤ 4294967287 }
+    requires scratch { scratch ≤ GREATEST_SCRATCH }
     ensures { OnOk result (out.new.items ≡ out.old.items ++ bounded Comparison.GtS (least to) scratch) }
 {
     out.push(Instr::LocalTee(scratch + 4))?;

@@ -6,6 +6,7 @@ ghost use Rattle.zw_safety_narrow.specs.Operators.{IsNarrow};
 ghost use Rattle.zw_safety_narrow.specs.ShiftCode.{are_amounts, too_far, amount_tested, left_code, right_operator, right_code};
 
 use crate::operators::{push_fitted, push_if_panics};
+use crate::setting::Setting;
 use std::alloc::AllocError;
 use zw_num::IntTy;
 use zw_wasm::{BinaryOperator, Comparison, Instr, ValType};
@@ -29,17 +30,11 @@ pub fn push_left(
 }
 
 /// Appends the code of `>>`.
-pub fn push_right(
-    left: IntTy,
-    right: IntTy,
-    to: IntTy,
-    scratch: u32,
-    out: &mut Vec<Instr>,
-) -> Result<(), AllocError>
-    ensures { OnOk result (out.new.items ≡ out.old.items ++ right_code left right to scratch) }
+pub fn push_right(setting: Setting, out: &mut Vec<Instr>) -> Result<(), AllocError>
+    ensures { OnOk result (out.new.items ≡ out.old.items ++ right_code setting.left setting.right setting.to setting.scratch) }
 {
-    push_amount_tested(width(to), right, scratch, out)?;
-    out.push(Instr::Binary(ValType::I32, right_operator(left)))?;
+    push_amount_tested(width(setting.to), setting.right, setting.scratch, out)?;
+    out.push(Instr::Binary(ValType::I32, right_operator(setting.left)))?;
     Ok(())
 }
 
