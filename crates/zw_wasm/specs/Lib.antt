@@ -16,6 +16,7 @@ pub mod Sequences
 pub mod WorkedNumbers
 pub mod WorkedBodies
 pub mod WorkedModules
+pub mod WorkedPanics
 pub mod WorkedRuns
 pub mod Laws
 pub mod Writing

@@ -120,13 +120,16 @@ abbrev pub panic_with : Option (List ℕ) → Halt
 panic_with None = Trapped unreachable_trap
 panic_with (Some bytes) = Panicked message_cause bytes
 
+-- a panic without a message, where there is such a cause, and pointer and length are 0
+abbrev pub panic_without : ℕ → ℕ → ℕ → Halt
+panic_without cause at count = if (nat_le 1 cause && nat_le cause last_cause) && (nat_eq at 0 && nat_eq count 0) then Panicked cause [] else Trapped unreachable_trap
+
 abbrev pub panic_of : List ℕ → Option ℕ → Option ℕ → Option ℕ → Halt
-panic_of memory (Some cause) (Some at) (Some count) =
-    if nat_eq cause message_cause then panic_with (bytes_at memory at count)
-    else (if nat_le 1 cause && nat_le cause last_cause then Panicked cause [] else Trapped unreachable_trap)
+panic_of memory (Some cause) (Some at) (Some count) = if nat_eq cause message_cause then panic_with (bytes_at memory at count) else panic_without cause at count
 panic_of memory _ _ _ = Trapped unreachable_trap
 
--- A trap at `unreachable` is a panic where the module exports the panic's state with a cause in range.
+-- A trap at `unreachable` is a panic where the module exports the panic's state with a cause in range, and without a message pointer and
+-- length are 0.
 abbrev pub trap_halt : Module → Store → ℕ → Halt
 trap_halt m store code =
     if nat_eq code unreachable_trap

@@ -4,6 +4,7 @@ ghost use Rattle.zw_wasm.specs.Laws.{BranchesAreTyped, BranchesRun, CodeIsStruct
 ghost use Rattle.zw_wasm.specs.WorkedBodies.{BodiesAreTyped};
 ghost use Rattle.zw_wasm.specs.WorkedModules.{WorkedModules};
 ghost use Rattle.zw_wasm.specs.WorkedNumbers.{WorkedNumbers, WorkedReadings};
+ghost use Rattle.zw_wasm.specs.WorkedPanics.{WorkedPanics};
 ghost use Rattle.zw_wasm.specs.WorkedRuns.{WorkedBranches, WorkedCalls, WorkedMemory, WorkedOperators};
 
 /// Which instruction of a body is refused first, and why.
@@ -47,4 +48,10 @@ pub fn calls_are_worked()
     ensures branches { WorkedBranches }
     ensures memory { WorkedMemory }
     ensures operators { WorkedOperators }
+{}
+
+/// What a trap at `unreachable` is by the three numbers of a panic's state, worked out by hand: a panic has a cause that there is,
+/// for a message its bytes, and without one 0 for pointer and length.
+pub fn panics_are_worked()
+    ensures { WorkedPanics }
 {}

@@ -15,7 +15,7 @@ mod writing;
 
 pub use execution::{
     bodies_are_typed, calls_are_worked, code_is_structured, module_calls_stay_ended,
-    modules_are_worked, numbers_are_worked, sequences_compose,
+    modules_are_worked, numbers_are_worked, panics_are_worked, sequences_compose,
 };
 pub use exports::{exported_function, exported_global};
 pub use globals::first_globals;
