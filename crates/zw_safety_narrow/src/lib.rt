@@ -11,10 +11,12 @@ mod laws;
 mod operators;
 mod reversal;
 mod saturating;
+mod setting;
 mod shifts;
 
 pub use casts::holds;
 pub use compare::is_unsigned;
 pub use laws::narrow_code_is_right;
 pub use operators::{INTEGER_OVERFLOW, extension, push_if_panics, push_narrowed, push_operator};
+pub use setting::{GREATEST_SCRATCH, Setting};
 pub use shifts::{right_operator, width};
