@@ -5,7 +5,6 @@ ghost use Rattle.zw_safety.specs.StoredCode.{wide_code_of_bounds, wide_code_of_r
 ghost use Rattle.zw_safety.specs.WideOperators.{IsServedWide, wide_bounds, wide_of_two, wide_of_one, is_wide_operator, last_type, goes_wide};
 
 use std::alloc::{AllocError, Global};
-use zw_num::IntTy;
 use zw_num::op::{
     ABS, ADD, ADD_SAT, ADD_WRAP, AS, BIT_AND, BIT_CAST, BIT_NOT, BIT_OR, BIT_REVERSE, BIT_XOR,
     BYTE_SWAP, CLZ, CTZ, DIV, DIV_EXACT, DIV_FLOOR, DIV_TRUNC, EQUAL, GREATER, GREATER_OR_EQUAL,
@@ -13,63 +12,18 @@ use zw_num::op::{
     NEG_WRAP, NOT, NOT_EQUAL, POP_COUNT, REM, REM_TRUNC, SHL, SHL_EXACT, SHL_SAT, SHR, SHR_EXACT,
     SUB, SUB_SAT, SUB_WRAP, TRUNCATE,
 };
-use zw_safety_narrow::push_operator;
+use zw_num::{
+    Arithmetic, Bitwise, Cast, Comparison, Count, Division, Extreme, IntTy, Shift, Unary,
+};
+use zw_safety_narrow::{Setting, push_operator};
 use zw_safety_wide::{
-    push_wide_bit_reverse, push_wide_byte_swap, push_wide_cast, push_wide_difference_sat,
-    push_wide_distance, push_wide_exact_quotient, push_wide_floor, push_wide_leading,
-    push_wide_left_exact, push_wide_left_sat, push_wide_modulo, push_wide_ones,
-    push_wide_product_sat, push_wide_quotient, push_wide_rest, push_wide_right_exact,
-    push_wide_sum_sat, push_wide_trailing,
+    push_wide_arithmetic, push_wide_cast, push_wide_count, push_wide_division, push_wide_shift,
+    push_wide_unary,
 };
 use zw_safety_words::{
-    Compared, fill_words, push_wide_choice, push_wide_comparison, push_wide_difference,
-    push_wide_left, push_wide_minus_one, push_wide_not, push_wide_opposite, push_wide_product,
-    push_wide_right, push_wide_same, push_wide_sum, push_wide_truncated, push_wide_word,
-    push_wide_wrapped,
+    fill_words, push_wide_bitwise, push_wide_comparison, push_wide_extreme, push_wide_not,
 };
-use zw_wasm::{BinaryOperator, Comparison, Instr};
-
-const COMPARED_EQUAL: Compared = Compared {
-    signed: Comparison::Eq,
-    unsigned: Comparison::Eq,
-    left_below: false,
-    right_below: false,
-};
-
-const COMPARED_NOT_EQUAL: Compared = Compared {
-    signed: Comparison::Ne,
-    unsigned: Comparison::Ne,
-    left_below: true,
-    right_below: true,
-};
-
-const COMPARED_LESS: Compared = Compared {
-    signed: Comparison::LtS,
-    unsigned: Comparison::LtU,
-    left_below: true,
-    right_below: false,
-};
-
-const COMPARED_LESS_OR_EQUAL: Compared = Compared {
-    signed: Comparison::LeS,
-    unsigned: Comparison::LeU,
-    left_below: true,
-    right_below: false,
-};
-
-const COMPARED_GREATER: Compared = Compared {
-    signed: Comparison::GtS,
-    unsigned: Comparison::GtU,
-    left_below: false,
-    right_below: true,
-};
-
-const COMPARED_GREATER_OR_EQUAL: Compared = Compared {
-    signed: Comparison::GeS,
-    unsigned: Comparison::GeU,
-    left_below: false,
-    right_below: true,
-};
+use zw_wasm::Instr;
 
 /// Appends the code of an operator whose operands and result have these types. Served by now are, on integer types of at most 32
 /// bits, signed or not, and on `bool` as `u1`: `+`, `-`, `*`, `+%`, `-%`, `*%`, `+|`, `-|`, `*|`, `/`, `%`, `@divTrunc`, `@divFloor`,
@@ -205,13 +159,19 @@ fn push_wide(
     requires scratch { scratch ≤ 4294967287 }
     ensures { OnOk result (out.new.items ≡ out.old.items ++ wide_code op left right to scratch) }
 {
+    let setting = Setting {
+        left,
+        right,
+        to,
+        scratch,
+    };
     match op {
-        ADD => push_wide_sum(left, right, to, scratch, out),
-        SUB => push_wide_difference(left, right, to, scratch, out),
-        MUL => push_wide_product(left, right, to, scratch, out),
-        ADD_WRAP => push_wide_wrapped(BinaryOperator::Add, left, right, to, scratch, out),
-        SUB_WRAP => push_wide_wrapped(BinaryOperator::Sub, left, right, to, scratch, out),
-        MUL_WRAP => push_wide_wrapped(BinaryOperator::Mul, left, right, to, scratch, out),
+        ADD => push_wide_arithmetic(Arithmetic::Add, setting, out),
+        SUB => push_wide_arithmetic(Arithmetic::Sub, setting, out),
+        MUL => push_wide_arithmetic(Arithmetic::Mul, setting, out),
+        ADD_WRAP => push_wide_arithmetic(Arithmetic::AddWrap, setting, out),
+        SUB_WRAP => push_wide_arithmetic(Arithmetic::SubWrap, setting, out),
+        MUL_WRAP => push_wide_arithmetic(Arithmetic::MulWrap, setting, out),
         _ => push_wide_order(op, left, right, to, scratch, out),
     }
 }
@@ -230,24 +190,21 @@ fn push_wide_order(
     requires scratch { scratch ≤ 4294967287 }
     ensures { OnOk result (out.new.items ≡ out.old.items ++ wide_code_of_order op left right to scratch) }
 {
+    let setting = Setting {
+        left,
+        right,
+        to,
+        scratch,
+    };
     match op {
-        EQUAL => push_wide_comparison(COMPARED_EQUAL, left, right, to, scratch, out),
-        NOT_EQUAL => push_wide_comparison(COMPARED_NOT_EQUAL, left, right, to, scratch, out),
-        LESS => push_wide_comparison(COMPARED_LESS, left, right, to, scratch, out),
-        LESS_OR_EQUAL => push_wide_comparison(
-            COMPARED_LESS_OR_EQUAL,
-            left,
-            right,
-            to,
-            scratch,
-            out,
-        ),
-        GREATER => push_wide_comparison(COMPARED_GREATER, left, right, to, scratch, out),
-        GREATER_OR_EQUAL => {
-            push_wide_comparison(COMPARED_GREATER_OR_EQUAL, left, right, to, scratch, out)
-        }
-        MIN => push_wide_choice(COMPARED_LESS, left, right, to, scratch, out),
-        MAX => push_wide_choice(COMPARED_GREATER, left, right, to, scratch, out),
+        EQUAL => push_wide_comparison(Comparison::Equal, setting, out),
+        NOT_EQUAL => push_wide_comparison(Comparison::NotEqual, setting, out),
+        LESS => push_wide_comparison(Comparison::Less, setting, out),
+        LESS_OR_EQUAL => push_wide_comparison(Comparison::LessOrEqual, setting, out),
+        GREATER => push_wide_comparison(Comparison::Greater, setting, out),
+        GREATER_OR_EQUAL => push_wide_comparison(Comparison::GreaterOrEqual, setting, out),
+        MIN => push_wide_extreme(Extreme::Min, setting, out),
+        MAX => push_wide_extreme(Extreme::Max, setting, out),
         _ => push_wide_bits(op, left, right, to, scratch, out),
     }
 }
@@ -266,12 +223,18 @@ fn push_wide_bits(
     requires scratch { scratch ≤ 4294967287 }
     ensures { OnOk result (out.new.items ≡ out.old.items ++ wide_code_of_bits op left right to scratch) }
 {
+    let setting = Setting {
+        left,
+        right,
+        to,
+        scratch,
+    };
     match op {
-        BIT_AND => push_wide_word(BinaryOperator::And, left, right, to, scratch, out),
-        BIT_OR => push_wide_word(BinaryOperator::Or, left, right, to, scratch, out),
-        BIT_XOR => push_wide_word(BinaryOperator::Xor, left, right, to, scratch, out),
-        SHL => push_wide_left(left, right, to, scratch, out),
-        SHR => push_wide_right(left, right, to, scratch, out),
+        BIT_AND => push_wide_bitwise(Bitwise::And, setting, out),
+        BIT_OR => push_wide_bitwise(Bitwise::Or, setting, out),
+        BIT_XOR => push_wide_bitwise(Bitwise::Xor, setting, out),
+        SHL => push_wide_shift(Shift::Shl, setting, out),
+        SHR => push_wide_shift(Shift::Shr, setting, out),
         _ => push_wide_shares(op, left, right, to, scratch, out),
     }
 }
@@ -291,14 +254,20 @@ fn push_wide_shares(
     requires scratch { scratch ≤ 4294967287 }
     ensures { OnOk result (out.new.items ≡ out.old.items ++ wide_code_of_shares op left right to scratch) }
 {
+    let setting = Setting {
+        left,
+        right,
+        to,
+        scratch,
+    };
     match op {
-        DIV => push_wide_quotient(left, right, to, scratch, out),
-        REM => push_wide_rest(left, right, to, scratch, out),
-        DIV_TRUNC => push_wide_quotient(left, right, to, scratch, out),
-        REM_TRUNC => push_wide_rest(left, right, to, scratch, out),
-        DIV_FLOOR => push_wide_floor(left, right, to, scratch, out),
-        MOD => push_wide_modulo(left, right, to, scratch, out),
-        DIV_EXACT => push_wide_exact_quotient(left, right, to, scratch, out),
+        DIV => push_wide_division(Division::Div, setting, out),
+        REM => push_wide_division(Division::Rem, setting, out),
+        DIV_TRUNC => push_wide_division(Division::DivTrunc, setting, out),
+        REM_TRUNC => push_wide_division(Division::RemTrunc, setting, out),
+        DIV_FLOOR => push_wide_division(Division::DivFloor, setting, out),
+        MOD => push_wide_division(Division::Mod, setting, out),
+        DIV_EXACT => push_wide_division(Division::DivExact, setting, out),
         _ => push_wide_bounds(op, left, right, to, scratch, out),
     }
 }
@@ -318,13 +287,19 @@ fn push_wide_bounds(
     requires scratch { scratch ≤ 4294967287 }
     ensures { OnOk result (out.new.items ≡ out.old.items ++ wide_code_of_bounds op left right to scratch) }
 {
+    let setting = Setting {
+        left,
+        right,
+        to,
+        scratch,
+    };
     match op {
-        ADD_SAT => push_wide_sum_sat(left, right, to, scratch, out),
-        SUB_SAT => push_wide_difference_sat(left, right, to, scratch, out),
-        MUL_SAT => push_wide_product_sat(left, right, to, scratch, out),
-        SHL_EXACT => push_wide_left_exact(left, right, to, scratch, out),
-        SHR_EXACT => push_wide_right_exact(left, right, to, scratch, out),
-        SHL_SAT => push_wide_left_sat(left, right, to, scratch, out),
+        ADD_SAT => push_wide_arithmetic(Arithmetic::AddSat, setting, out),
+        SUB_SAT => push_wide_arithmetic(Arithmetic::SubSat, setting, out),
+        MUL_SAT => push_wide_arithmetic(Arithmetic::MulSat, setting, out),
+        SHL_EXACT => push_wide_shift(Shift::ShlExact, setting, out),
+        SHR_EXACT => push_wide_shift(Shift::ShrExact, setting, out),
+        SHL_SAT => push_wide_shift(Shift::ShlSat, setting, out),
         _ => push_wide_of_one(op, left, to, scratch, out),
     }
 }
@@ -342,14 +317,20 @@ fn push_wide_of_one(
     requires scratch { scratch ≤ 4294967287 }
     ensures { OnOk result (out.new.items ≡ out.old.items ++ wide_code_of_one op from to scratch) }
 {
+    let setting = Setting {
+        left: from,
+        right: from,
+        to,
+        scratch,
+    };
     match op {
-        NEG => push_wide_opposite(from, to, scratch, out),
-        BIT_NOT => push_wide_minus_one(BinaryOperator::Xor, from, to, out),
-        NEG_WRAP => push_wide_minus_one(BinaryOperator::Mul, from, to, out),
-        AS => push_wide_same(from, to, out),
-        INT_FROM_BOOL => push_wide_same(from, to, out),
-        TRUNCATE => push_wide_truncated(from, to, out),
-        BIT_CAST => push_wide_truncated(from, to, out),
+        NEG => push_wide_unary(Unary::Neg, setting, out),
+        BIT_NOT => push_wide_unary(Unary::BitNot, setting, out),
+        NEG_WRAP => push_wide_unary(Unary::NegWrap, setting, out),
+        AS => push_wide_cast(Cast::As, setting, out),
+        INT_FROM_BOOL => push_wide_cast(Cast::IntFromBool, setting, out),
+        TRUNCATE => push_wide_cast(Cast::Truncate, setting, out),
+        BIT_CAST => push_wide_cast(Cast::BitCast, setting, out),
         _ => push_wide_counts(op, from, to, scratch, out),
     }
 }
@@ -367,12 +348,18 @@ fn push_wide_counts(
     requires scratch { scratch ≤ 4294967287 }
     ensures { OnOk result (out.new.items ≡ out.old.items ++ wide_code_of_counts op from to scratch) }
 {
+    let setting = Setting {
+        left: from,
+        right: from,
+        to,
+        scratch,
+    };
     match op {
-        INT_CAST => push_wide_cast(from, to, scratch, out),
-        ABS => push_wide_distance(from, to, scratch, out),
-        CLZ => push_wide_leading(from, to, out),
-        CTZ => push_wide_trailing(from, to, scratch, out),
-        POP_COUNT => push_wide_ones(from, to, out),
+        INT_CAST => push_wide_cast(Cast::IntCast, setting, out),
+        ABS => push_wide_unary(Unary::Abs, setting, out),
+        CLZ => push_wide_count(Count::Clz, setting, out),
+        CTZ => push_wide_count(Count::Ctz, setting, out),
+        POP_COUNT => push_wide_count(Count::PopCount, setting, out),
         NOT => push_wide_not(from, to, out),
         _ => push_wide_reversals(op, from, to, scratch, out),
     }
@@ -389,9 +376,15 @@ fn push_wide_reversals(
     requires scratch { scratch ≤ 4294967287 }
     ensures { OnOk result (out.new.items ≡ out.old.items ++ wide_code_of_reversals op from to scratch) }
 {
+    let setting = Setting {
+        left: from,
+        right: from,
+        to,
+        scratch,
+    };
     match op {
-        BYTE_SWAP => push_wide_byte_swap(from, to, scratch, out),
-        BIT_REVERSE => push_wide_bit_reverse(from, to, scratch, out),
+        BYTE_SWAP => push_wide_unary(Unary::ByteSwap, setting, out),
+        BIT_REVERSE => push_wide_unary(Unary::BitReverse, setting, out),
         _ => Ok(()),
     }
 }

@@ -3,3 +3,4 @@ pub mod WideSignedCode
 pub mod WideSaturatingCode
 pub mod WideShiftCode
 pub mod WideReversalCode
+pub mod WideFamilies

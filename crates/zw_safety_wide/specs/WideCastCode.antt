@@ -3,7 +3,10 @@ use Rattle.std.specs.Prelude.{ℕ, pos, negsuc, ◌+◌, ◌-◌, ◌/◌, ◌^�
 use Rattle.zw_num.specs.Arithmetic.{width}
 use Rattle.zw_num.specs.declared.int_ty.IntTy.{IntTy}
 use Rattle.zw_num.specs.declared.int_ty.IntTy.TheVariants.{Sized, Comptime}
+use Rattle.zw_num.specs.declared.operator.Count.{Count}
+use Rattle.zw_num.specs.declared.operator.Count.TheVariants as count
 use Rattle.zw_safety_narrow.specs.Code.{if_panics}
+use Rattle.zw_safety_narrow.specs.declared.setting.Setting.{Setting}
 use Rattle.zw_safety_words.specs.WideCode.{widened, settled}
 use Rattle.zw_wasm.specs.declared.module.BinaryOperator.TheVariants.{Add, Sub, Mul, And}
 use Rattle.zw_wasm.specs.declared.module.Comparison.TheVariants.{LtS, LtU, GtU}
@@ -61,17 +64,9 @@ own_long (Sized true bits) = if nat_lt bits 64 then I64Const (pos (2 ^ bits - 1)
 own_long (Sized false bits) = []
 own_long Comptime = []
 
--- `@popCount`
-abbrev pub wide_ones_code : IntTy → IntTy → List Instr
-wide_ones_code from to = widened from ++ ((own_long from ++ Unary I64 Popcnt ∷ []) ++ settled to)
-
 -- the zeros above the type's bits don't count
 abbrev pub less_zeros : IntTy → List Instr
 less_zeros from = if nat_lt (width from) 64 then I64Const (pos (64 - width from)) ∷ Binary I64 Sub ∷ [] else []
-
--- `@clz`
-abbrev pub wide_leading_code : IntTy → IntTy → List Instr
-wide_leading_code from to = widened from ++ ((own_long from ++ (Unary I64 Clz ∷ less_zeros from)) ++ settled to)
 
 -- at most as many as the type has bits
 abbrev pub long_at_most : IntTy → ℕ → List Instr
@@ -80,6 +75,24 @@ long_at_most from scratch =
     then LocalTee (scratch + 4) ∷ I64Const (pos (width from)) ∷ LocalGet (scratch + 4) ∷ I64Const (pos (width from)) ∷ Compare I64 LtU ∷ Select ∷ []
     else []
 
--- `@ctz`
+-- a count of 64 bits, and what makes it that of the type's bits
+abbrev pub counted_in : Count → IntTy → ℕ → List Instr
+counted_in count.PopCount from scratch = Unary I64 Popcnt ∷ []
+counted_in count.Clz from scratch = Unary I64 Clz ∷ less_zeros from
+counted_in count.Ctz from scratch = Unary I64 Ctz ∷ long_at_most from scratch
+
+abbrev pub wide_count_code : Count → IntTy → IntTy → ℕ → List Instr
+wide_count_code operator from to scratch = widened from ++ ((own_long from ++ counted_in operator from scratch) ++ settled to)
+
+abbrev pub wide_code_of_count : Count → Setting → List Instr
+wide_code_of_count operator t = wide_count_code operator t.left t.to t.scratch
+
+-- `@popCount`, `@clz` and `@ctz` one by one
+abbrev pub wide_ones_code : IntTy → IntTy → List Instr
+wide_ones_code from to = widened from ++ ((own_long from ++ Unary I64 Popcnt ∷ []) ++ settled to)
+
+abbrev pub wide_leading_code : IntTy → IntTy → List Instr
+wide_leading_code from to = widened from ++ ((own_long from ++ (Unary I64 Clz ∷ less_zeros from)) ++ settled to)
+
 abbrev pub wide_trailing_code : IntTy → IntTy → ℕ → List Instr
 wide_trailing_code from to scratch = widened from ++ ((own_long from ++ (Unary I64 Ctz ∷ long_at_most from scratch)) ++ settled to)

@@ -1,14 +1,15 @@
-// The code of casts, of how far a number is from 0, and of counts of bits where a type has more than 32 bits.
+// The code of `@intCast`, and of how far a number is from 0, where a type has more than 32 bits.
 ghost use Rattle.std.specs.Prelude.{◌≡◌, ◌≤◌, ◌-◌, ◌/◌, ◌^◌, ◌++◌, true, false, pos, OnOk};
 ghost use Rattle.zw_num.specs.declared.int_ty.IntTy.TheVariants.{Sized};
 ghost use Rattle.zw_safety_narrow.specs.Operators.{IsStored};
-ghost use Rattle.zw_safety_wide.specs.WideCastCode.{long_tested, long_above, long_outside, long_negative, long_cast, wide_cast_code, long_distance, wide_distance_code, own_long, wide_ones_code, less_zeros, wide_leading_code, long_at_most, wide_trailing_code};
+ghost use Rattle.zw_safety_narrow.specs.declared.setting.TheConstants.{GREATEST_SCRATCH};
+ghost use Rattle.zw_safety_wide.specs.WideCastCode.{long_tested, long_above, long_outside, long_negative, long_cast, wide_cast_code, long_distance, wide_distance_code};
 
 use std::alloc::AllocError;
 use zw_num::IntTy;
-use zw_safety_narrow::{push_if_panics, width};
+use zw_safety_narrow::{Setting, push_if_panics};
 use zw_safety_words::{long_half, long_mask, push_settled, push_widened};
-use zw_wasm::{BinaryOperator, Comparison, Instr, UnaryOperator, ValType};
+use zw_wasm::{BinaryOperator, Comparison, Instr, ValType};
 
 /// The cause of a panic where a cast's number is too great, or too far below 0.
 const CAST_TRUNCATED: u8 = 11;
@@ -17,34 +18,24 @@ const CAST_TRUNCATED: u8 = 11;
 const NEGATIVE_TO_UNSIGNED: u8 = 12;
 
 /// Appends the code of `@intCast`.
-pub fn push_wide_cast(
-    from: IntTy,
-    to: IntTy,
-    scratch: u32,
-    out: &mut Vec<Instr>,
-) -> Result<(), AllocError>
-    requires from_stored { IsStored from }
-    requires to_stored { IsStored to }
-    requires scratch { scratch ≤ 4294967287 }
-    ensures { OnOk result (out.new.items ≡ out.old.items ++ wide_cast_code from to scratch) }
+pub fn push_wide_int_cast(setting: Setting, out: &mut Vec<Instr>) -> Result<(), AllocError>
+    requires from_stored { IsStored setting.left }
+    requires to_stored { IsStored setting.to }
+    requires scratch { setting.scratch ≤ GREATEST_SCRATCH }
+    ensures { OnOk result (out.new.items ≡ out.old.items ++ wide_cast_code setting.left setting.to setting.scratch) }
 {
-    push_widened(from, out)?;
-    push_long_cast(from, to, scratch, out)?;
-    push_settled(to, out)?;
+    push_widened(setting.left, out)?;
+    push_long_cast(setting, out)?;
+    push_settled(setting.to, out)?;
     Ok(())
 }
 
 /// Appends the tests of a cast.
-fn push_long_cast(
-    from: IntTy,
-    to: IntTy,
-    scratch: u32,
-    out: &mut Vec<Instr>,
-) -> Result<(), AllocError>
-    requires from_stored { IsStored from }
-    requires to_stored { IsStored to }
-    requires scratch { scratch ≤ 4294967287 }
-    ensures { OnOk result (out.new.items ≡ out.old.items ++ long_cast from to scratch) }
+fn push_long_cast(setting: Setting, out: &mut Vec<Instr>) -> Result<(), AllocError>
+    requires from_stored { IsStored setting.left }
+    requires to_stored { IsStored setting.to }
+    requires scratch { setting.scratch ≤ GREATEST_SCRATCH }
+    ensures { OnOk result (out.new.items ≡ out.old.items ++ long_cast setting.left setting.to setting.scratch) }
 {
     let (
         IntTy::Sized {
@@ -52,22 +43,22 @@ fn push_long_cast(
             bits: from_bits,
         },
         IntTy::Sized { signed, bits },
-    ) = (from, to)
+    ) = (setting.left, setting.to)
     else {
         return Ok(());
     };
     match (from_signed, signed) {
-        (true, true) => push_signed_cast(from_bits, bits, scratch, out),
-        (false, true) => push_cast_to_signed(from_bits, bits, scratch, out),
-        (false, false) => push_unsigned_cast(from_bits, bits, scratch, out),
-        (true, false) => push_cast_to_unsigned(from_bits, bits, scratch, out),
+        (true, true) => push_signed_cast(from_bits, bits, setting.scratch, out),
+        (false, true) => push_cast_to_signed(from_bits, bits, setting.scratch, out),
+        (false, false) => push_unsigned_cast(from_bits, bits, setting.scratch, out),
+        (true, false) => push_cast_to_unsigned(from_bits, bits, setting.scratch, out),
     }
 }
 
 /// Appends the test of a cast between signed types of so many bits.
 fn push_signed_cast(from: u8, to: u8, scratch: u32, out: &mut Vec<Instr>) -> Result<(), AllocError>
     requires from_stored { from ≤ 64 }
-    requires scratch { scratch ≤ 4294967287 }
+    requires scratch { scratch ≤ GREATEST_SCRATCH }
     ensures { OnOk result (out.new.items ≡ out.old.items ++ long_cast (Sized true from) (Sized true to) scratch) }
 {
     if from > to {
@@ -99,7 +90,7 @@ fn push_cast_to_signed(
     out: &mut Vec<Instr>,
 ) -> Result<(), AllocError>
     requires from_stored { from ≤ 64 }
-    requires scratch { scratch ≤ 4294967287 }
+    requires scratch { scratch ≤ GREATEST_SCRATCH }
     ensures { OnOk result (out.new.items ≡ out.old.items ++ long_cast (Sized false from) (Sized true to) scratch) }
 {
     if from >= to {
@@ -120,7 +111,7 @@ fn push_unsigned_cast(
     out: &mut Vec<Instr>,
 ) -> Result<(), AllocError>
     requires from_stored { from ≤ 64 }
-    requires scratch { scratch ≤ 4294967287 }
+    requires scratch { scratch ≤ GREATEST_SCRATCH }
     ensures { OnOk result (out.new.items ≡ out.old.items ++ long_cast (Sized false from) (Sized false to) scratch) }
 {
     if from > to {
@@ -137,7 +128,7 @@ fn push_cast_to_unsigned(
     out: &mut Vec<Instr>,
 ) -> Result<(), AllocError>
     requires from_stored { from ≤ 64 }
-    requires scratch { scratch ≤ 4294967287 }
+    requires scratch { scratch ≤ GREATEST_SCRATCH }
     ensures { OnOk result (out.new.items ≡ out.old.items ++ long_cast (Sized true from) (Sized false to) scratch) }
 {
     push_sign_tested(scratch, out)?;
@@ -149,7 +140,7 @@ fn push_cast_to_unsigned(
 
 /// Appends code that panics where its operand, which stays, is negative.
 fn push_sign_tested(scratch: u32, out: &mut Vec<Instr>) -> Result<(), AllocError>
-    requires { scratch ≤ 4294967287 }
+    requires { scratch ≤ GREATEST_SCRATCH }
     ensures { OnOk result (out.new.items ≡ out.old.items ++ long_tested long_negative 12 scratch) }
 {
     out.push(Instr::LocalTee(scratch + 4))?;
@@ -171,7 +162,7 @@ fn push_negative(out: &mut Vec<Instr>) -> Result<(), AllocError>
 /// Appends code that panics where its operand, which stays, has more than so many bits.
 fn push_top_tested(bits: u8, scratch: u32, out: &mut Vec<Instr>) -> Result<(), AllocError>
     requires few { bits ≤ 63 }
-    requires scratch { scratch ≤ 4294967287 }
+    requires scratch { scratch ≤ GREATEST_SCRATCH }
     ensures { OnOk result (out.new.items ≡ out.old.items ++ long_tested (long_above (2 ^ bits - 1)) 11 scratch) }
 {
     out.push(Instr::LocalTee(scratch + 4))?;
@@ -195,24 +186,19 @@ pub fn greatest_signed(bits: u8) -> i64
 }
 
 /// Appends the code of `@abs`.
-pub fn push_wide_distance(
-    from: IntTy,
-    to: IntTy,
-    scratch: u32,
-    out: &mut Vec<Instr>,
-) -> Result<(), AllocError>
-    requires { scratch ≤ 4294967287 }
-    ensures { OnOk result (out.new.items ≡ out.old.items ++ wide_distance_code from to scratch) }
+pub fn push_wide_distance(setting: Setting, out: &mut Vec<Instr>) -> Result<(), AllocError>
+    requires { setting.scratch ≤ GREATEST_SCRATCH }
+    ensures { OnOk result (out.new.items ≡ out.old.items ++ wide_distance_code setting.left setting.to setting.scratch) }
 {
-    push_widened(from, out)?;
-    push_long_distance(from, scratch, out)?;
-    push_settled(to, out)?;
+    push_widened(setting.left, out)?;
+    push_long_distance(setting.left, setting.scratch, out)?;
+    push_settled(setting.to, out)?;
     Ok(())
 }
 
 /// Appends code that leaves how far its operand is from 0.
 fn push_long_distance(from: IntTy, scratch: u32, out: &mut Vec<Instr>) -> Result<(), AllocError>
-    requires { scratch ≤ 4294967287 }
+    requires { scratch ≤ GREATEST_SCRATCH }
     ensures { OnOk result (out.new.items ≡ out.old.items ++ long_distance from scratch) }
 {
     if let IntTy::Sized { signed: true, .. } = from {
@@ -223,7 +209,7 @@ fn push_long_distance(from: IntTy, scratch: u32, out: &mut Vec<Instr>) -> Result
 
 /// Appends the same of an operand with a sign.
 fn push_signed_distance(scratch: u32, out: &mut Vec<Instr>) -> Result<(), AllocError>
-    requires { scratch ≤ 4294967287 }
+    requires { scratch ≤ GREATEST_SCRATCH }
     ensures { OnOk result (out.new.items ≡ out.old.items ++ long_distance (Sized true 64) scratch) }
 {
     out.push(Instr::LocalTee(scratch + 4))?;
@@ -233,96 +219,5 @@ fn push_signed_distance(scratch: u32, out: &mut Vec<Instr>) -> Result<(), AllocE
     out.push(Instr::LocalGet(scratch + 4))?;
     push_negative(out)?;
     out.push(Instr::Select)?;
-    Ok(())
-}
-
-/// Appends the code of `@popCount`.
-pub fn push_wide_ones(from: IntTy, to: IntTy, out: &mut Vec<Instr>) -> Result<(), AllocError>
-    ensures { OnOk result (out.new.items ≡ out.old.items ++ wide_ones_code from to) }
-{
-    push_widened(from, out)?;
-    push_own_long(from, out)?;
-    out.push(Instr::Unary(ValType::I64, UnaryOperator::Popcnt))?;
-    push_settled(to, out)?;
-    Ok(())
-}
-
-/// Appends the code of `@clz`.
-pub fn push_wide_leading(from: IntTy, to: IntTy, out: &mut Vec<Instr>) -> Result<(), AllocError>
-    ensures { OnOk result (out.new.items ≡ out.old.items ++ wide_leading_code from to) }
-{
-    push_widened(from, out)?;
-    push_own_long(from, out)?;
-    out.push(Instr::Unary(ValType::I64, UnaryOperator::Clz))?;
-    push_less_zeros(from, out)?;
-    push_settled(to, out)?;
-    Ok(())
-}
-
-/// Appends the code of `@ctz`.
-pub fn push_wide_trailing(
-    from: IntTy,
-    to: IntTy,
-    scratch: u32,
-    out: &mut Vec<Instr>,
-) -> Result<(), AllocError>
-    requires { scratch ≤ 4294967287 }
-    ensures { OnOk result (out.new.items ≡ out.old.items ++ wide_trailing_code from to scratch) }
-{
-    push_widened(from, out)?;
-    push_own_long(from, out)?;
-    out.push(Instr::Unary(ValType::I64, UnaryOperator::Ctz))?;
-    push_long_at_most(from, scratch, out)?;
-    push_settled(to, out)?;
-    Ok(())
-}
-
-/// Appends code that leaves the bits of the type alone.
-fn push_own_long(from: IntTy, out: &mut Vec<Instr>) -> Result<(), AllocError>
-    ensures { OnOk result (out.new.items ≡ out.old.items ++ own_long from) }
-{
-    if let IntTy::Sized { signed: true, bits } = from {
-        push_low_bits(bits, out)?;
-    }
-    Ok(())
-}
-
-/// Appends code that leaves the lowest bits of its operand, where they aren't all.
-fn push_low_bits(bits: u8, out: &mut Vec<Instr>) -> Result<(), AllocError>
-    ensures { OnOk result (out.new.items ≡ out.old.items ++ own_long (Sized true bits)) }
-{
-    if bits < 64 {
-        out.push(Instr::I64Const(long_mask(bits)))?;
-        out.push(Instr::Binary(ValType::I64, BinaryOperator::And))?;
-    }
-    Ok(())
-}
-
-/// Appends code that takes the zeros above the type's bits away.
-fn push_less_zeros(from: IntTy, out: &mut Vec<Instr>) -> Result<(), AllocError>
-    ensures { OnOk result (out.new.items ≡ out.old.items ++ less_zeros from) }
-{
-    let bits = width(from);
-    if bits < 64 {
-        out.push(Instr::I64Const(i64::from(64 - bits)))?;
-        out.push(Instr::Binary(ValType::I64, BinaryOperator::Sub))?;
-    }
-    Ok(())
-}
-
-/// Appends code that leaves its operand, or the bits of the type where it isn't less.
-fn push_long_at_most(from: IntTy, scratch: u32, out: &mut Vec<Instr>) -> Result<(), AllocError>
-    requires { scratch ≤ 4294967287 }
-    ensures { OnOk result (out.new.items ≡ out.old.items ++ long_at_most from scratch) }
-{
-    let bits = width(from);
-    if bits < 64 {
-        out.push(Instr::LocalTee(scratch + 4))?;
-        out.push(Instr::I64Const(i64::from(bits)))?;
-        out.push(Instr::LocalGet(scratch + 4))?;
-        out.push(Instr::I64Const(i64::from(bits)))?;
-        out.push(Instr::Compare(ValType::I64, Comparison::LtU))?;
-        out.push(Instr::Select)?;
-    }
     Ok(())
 }

@@ -1,57 +1,48 @@
 // The code of `@byteSwap` and `@bitReverse` where a type has more than 32 bits: digits change places with their neighbours.
 ghost use Rattle.std.specs.Prelude.{◌≡◌, ◌≤◌, ◌++◌, pos, OnOk};
 ghost use Rattle.zw_safety_narrow.specs.ReversalCode.{every_other};
+ghost use Rattle.zw_safety_narrow.specs.declared.setting.TheConstants.{GREATEST_SCRATCH};
 ghost use Rattle.zw_safety_wide.specs.WideReversalCode.{long_neighbours_swapped, long_bytes_turned, long_bits_turned, long_lowered, with_bits, wide_byte_swap_code, wide_bit_reverse_code};
 
 use std::alloc::AllocError;
 use zw_num::IntTy;
-use zw_safety_narrow::{holds, width};
+use zw_safety_narrow::{Setting, holds, width};
 use zw_safety_words::{push_long_moved, push_settled, push_wide_fitted, push_widened};
 use zw_wasm::{BinaryOperator, Instr, ValType};
 
 /// Appends the code of `@byteSwap`.
-pub fn push_wide_byte_swap(
-    from: IntTy,
-    to: IntTy,
-    scratch: u32,
-    out: &mut Vec<Instr>,
-) -> Result<(), AllocError>
-    requires { scratch ≤ 4294967287 }
-    ensures { OnOk result (out.new.items ≡ out.old.items ++ wide_byte_swap_code from to scratch) }
+pub fn push_wide_byte_swap(setting: Setting, out: &mut Vec<Instr>) -> Result<(), AllocError>
+    requires { setting.scratch ≤ GREATEST_SCRATCH }
+    ensures { OnOk result (out.new.items ≡ out.old.items ++ wide_byte_swap_code setting.left setting.to setting.scratch) }
 {
-    push_widened(from, out)?;
-    let bits = width(from);
+    push_widened(setting.left, out)?;
+    let bits = width(setting.left);
     if bits == 0 {
-        return push_settled(to, out);
+        return push_settled(setting.to, out);
     }
-    push_turned_bytes(scratch, out)?;
-    push_lowered(from, out)?;
-    push_with_bits(bits, to, out)
+    push_turned_bytes(setting.scratch, out)?;
+    push_lowered(setting.left, out)?;
+    push_with_bits(bits, setting.to, out)
 }
 
 /// Appends the code of `@bitReverse`.
-pub fn push_wide_bit_reverse(
-    from: IntTy,
-    to: IntTy,
-    scratch: u32,
-    out: &mut Vec<Instr>,
-) -> Result<(), AllocError>
-    requires { scratch ≤ 4294967287 }
-    ensures { OnOk result (out.new.items ≡ out.old.items ++ wide_bit_reverse_code from to scratch) }
+pub fn push_wide_bit_reverse(setting: Setting, out: &mut Vec<Instr>) -> Result<(), AllocError>
+    requires { setting.scratch ≤ GREATEST_SCRATCH }
+    ensures { OnOk result (out.new.items ≡ out.old.items ++ wide_bit_reverse_code setting.left setting.to setting.scratch) }
 {
-    push_widened(from, out)?;
-    let bits = width(from);
+    push_widened(setting.left, out)?;
+    let bits = width(setting.left);
     if bits == 0 {
-        return push_settled(to, out);
+        return push_settled(setting.to, out);
     }
-    push_turned_bits(scratch, out)?;
-    push_lowered(from, out)?;
-    push_with_bits(bits, to, out)
+    push_turned_bits(setting.scratch, out)?;
+    push_lowered(setting.left, out)?;
+    push_with_bits(bits, setting.to, out)
 }
 
 /// Appends code that puts the eight bytes in the other order.
 fn push_turned_bytes(scratch: u32, out: &mut Vec<Instr>) -> Result<(), AllocError>
-    requires { scratch ≤ 4294967287 }
+    requires { scratch ≤ GREATEST_SCRATCH }
     ensures { OnOk result (out.new.items ≡ out.old.items ++ long_bytes_turned scratch) }
 {
     push_swapped(8, 0x00ff_00ff_00ff_00ff, scratch, out)?;
@@ -62,7 +53,7 @@ fn push_turned_bytes(scratch: u32, out: &mut Vec<Instr>) -> Result<(), AllocErro
 
 /// Appends code that puts the 64 bits in the other order.
 fn push_turned_bits(scratch: u32, out: &mut Vec<Instr>) -> Result<(), AllocError>
-    requires { scratch ≤ 4294967287 }
+    requires { scratch ≤ GREATEST_SCRATCH }
     ensures { OnOk result (out.new.items ≡ out.old.items ++ long_bits_turned scratch) }
 {
     push_swapped(1, 0x5555_5555_5555_5555, scratch, out)?;
@@ -76,7 +67,7 @@ fn push_turned_bits(scratch: u32, out: &mut Vec<Instr>) -> Result<(), AllocError
 /// lowest one on.
 fn push_swapped(bits: u8, mask: i64, scratch: u32, out: &mut Vec<Instr>) -> Result<(), AllocError>
     requires mask { mask ≡ pos (every_other 64 bits) }
-    requires scratch { scratch ≤ 4294967287 }
+    requires scratch { scratch ≤ GREATEST_SCRATCH }
     ensures { OnOk result (out.new.items ≡ out.old.items ++ long_neighbours_swapped bits scratch) }
 {
     out.push(Instr::LocalTee(scratch + 4))?;

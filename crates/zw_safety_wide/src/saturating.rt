@@ -2,6 +2,7 @@
 ghost use Rattle.std.specs.Prelude.{◌≡◌, ◌+◌, ◌≤◌, ◌∷◌, ◌++◌, false, OnOk};
 ghost use Rattle.zw_num.specs.declared.int_ty.IntTy.TheVariants.{Sized};
 ghost use Rattle.zw_safety_narrow.specs.Operators.{IsStored};
+ghost use Rattle.zw_safety_narrow.specs.declared.setting.TheConstants.{GREATEST_SCRATCH};
 ghost use Rattle.zw_safety_wide.specs.WideSaturatingCode.{greatest_long, bound, nearest, sum_nearest, difference_nearest, wide_sum_sat_code, wide_difference_sat_code, wide_product_sat_code};
 ghost use Rattle.zw_safety_words.specs.WideCode.{settled, long_less, crossed};
 ghost use Rattle.zw_wasm.specs.declared.module.Instr.TheVariants.{LocalGet, Select};
@@ -10,6 +11,7 @@ use crate::casts::greatest_signed;
 use crate::shares::least_long;
 use std::alloc::AllocError;
 use zw_num::IntTy;
+use zw_safety_narrow::Setting;
 use zw_safety_words::{
     all_signed, all_unsigned, both_unsigned, long_mask, push_crossed, push_difference_words,
     push_long_less, push_low_word, push_outside, push_product_words, push_settled, push_spread,
@@ -18,47 +20,46 @@ use zw_safety_words::{
 use zw_wasm::{BinaryOperator, Comparison, Instr, ValType};
 
 /// Appends the code of `+|`.
-pub fn push_wide_sum_sat(
-    left: IntTy,
-    right: IntTy,
-    to: IntTy,
-    scratch: u32,
-    out: &mut Vec<Instr>,
-) -> Result<(), AllocError>
-    requires to_stored { IsStored to }
-    requires scratch { scratch ≤ 4294967287 }
-    ensures { OnOk result (out.new.items ≡ out.old.items ++ wide_sum_sat_code left right to scratch) }
+pub fn push_wide_sum_sat(setting: Setting, out: &mut Vec<Instr>) -> Result<(), AllocError>
+    requires to_stored { IsStored setting.to }
+    requires scratch { setting.scratch ≤ GREATEST_SCRATCH }
+    ensures { OnOk result (out.new.items ≡ out.old.items ++ wide_sum_sat_code setting.left setting.right setting.to setting.scratch) }
 {
-    push_spread(left, right, scratch, out)?;
-    push_sum_nearest(left, right, to, scratch, out)?;
+    push_spread(setting, out)?;
+    push_sum_nearest(setting, out)?;
     Ok(())
 }
 
 /// Appends code that takes the sum of both operands, which are in their locals, to the nearest value of the type.
-fn push_sum_nearest(
-    left: IntTy,
-    right: IntTy,
-    to: IntTy,
-    scratch: u32,
-    out: &mut Vec<Instr>,
-) -> Result<(), AllocError>
-    requires to_stored { IsStored to }
-    requires scratch { scratch ≤ 4294967287 }
-    ensures { OnOk result (out.new.items ≡ out.old.items ++ sum_nearest left right to scratch) }
+fn push_sum_nearest(setting: Setting, out: &mut Vec<Instr>) -> Result<(), AllocError>
+    requires to_stored { IsStored setting.to }
+    requires scratch { setting.scratch ≤ GREATEST_SCRATCH }
+    ensures { OnOk result (out.new.items ≡ out.old.items ++ sum_nearest setting.left setting.right setting.to setting.scratch) }
 {
-    if all_unsigned(left, right, to) {
-        push_low_word(BinaryOperator::Add, scratch, out)?;
-        push_bound(true, to, scratch + 5, out)?;
-        push_less_chosen(scratch + 6, scratch + 4, to, scratch, out)?;
+    if all_unsigned(setting) {
+        push_low_word(BinaryOperator::Add, setting.scratch, out)?;
+        push_bound(true, setting.to, setting.scratch + 5, out)?;
+        push_less_chosen(
+            setting.scratch + 6,
+            setting.scratch + 4,
+            setting.to,
+            setting.scratch,
+            out,
+        )?;
         Ok(())
-    } else if all_signed(left, right, to) {
-        push_low_word(BinaryOperator::Add, scratch, out)?;
-        push_bound(false, to, scratch + 5, out)?;
-        push_crossed_chosen(Comparison::LtS, to, scratch, out)?;
+    } else if all_signed(setting) {
+        push_low_word(BinaryOperator::Add, setting.scratch, out)?;
+        push_bound(false, setting.to, setting.scratch + 5, out)?;
+        push_crossed_chosen(Comparison::LtS, setting.to, setting.scratch, out)?;
         Ok(())
     } else {
-        push_sum_words(left, right, scratch, out)?;
-        push_nearest(both_unsigned(left, right), to, scratch, out)?;
+        push_sum_words(setting, out)?;
+        push_nearest(
+            both_unsigned(setting.left, setting.right),
+            setting.to,
+            setting.scratch,
+            out,
+        )?;
         Ok(())
     }
 }
@@ -71,7 +72,7 @@ fn push_less_chosen(
     scratch: u32,
     out: &mut Vec<Instr>,
 ) -> Result<(), AllocError>
-    requires { scratch ≤ 4294967287 }
+    requires { scratch ≤ GREATEST_SCRATCH }
     ensures { OnOk result (out.new.items ≡ out.old.items ++ (LocalGet (scratch + 6) ∷ (long_less local other ++ (Select ∷ settled to)))) }
 {
     out.push(Instr::LocalGet(scratch + 6))?;
@@ -88,7 +89,7 @@ fn push_crossed_chosen(
     scratch: u32,
     out: &mut Vec<Instr>,
 ) -> Result<(), AllocError>
-    requires { scratch ≤ 4294967287 }
+    requires { scratch ≤ GREATEST_SCRATCH }
     ensures { OnOk result (out.new.items ≡ out.old.items ++ (LocalGet (scratch + 6) ∷ (crossed comparison scratch ++ (Select ∷ settled to)))) }
 {
     out.push(Instr::LocalGet(scratch + 6))?;
@@ -99,66 +100,59 @@ fn push_crossed_chosen(
 }
 
 /// Appends the code of `-|`.
-pub fn push_wide_difference_sat(
-    left: IntTy,
-    right: IntTy,
-    to: IntTy,
-    scratch: u32,
-    out: &mut Vec<Instr>,
-) -> Result<(), AllocError>
-    requires to_stored { IsStored to }
-    requires scratch { scratch ≤ 4294967287 }
-    ensures { OnOk result (out.new.items ≡ out.old.items ++ wide_difference_sat_code left right to scratch) }
+pub fn push_wide_difference_sat(setting: Setting, out: &mut Vec<Instr>) -> Result<(), AllocError>
+    requires to_stored { IsStored setting.to }
+    requires scratch { setting.scratch ≤ GREATEST_SCRATCH }
+    ensures { OnOk result (out.new.items ≡ out.old.items ++ wide_difference_sat_code setting.left setting.right setting.to setting.scratch) }
 {
-    push_spread(left, right, scratch, out)?;
-    push_difference_nearest(left, right, to, scratch, out)?;
+    push_spread(setting, out)?;
+    push_difference_nearest(setting, out)?;
     Ok(())
 }
 
 /// Appends code that takes the difference of both operands, which are in their locals, to the nearest value of the type.
-fn push_difference_nearest(
-    left: IntTy,
-    right: IntTy,
-    to: IntTy,
-    scratch: u32,
-    out: &mut Vec<Instr>,
-) -> Result<(), AllocError>
-    requires to_stored { IsStored to }
-    requires scratch { scratch ≤ 4294967287 }
-    ensures { OnOk result (out.new.items ≡ out.old.items ++ difference_nearest left right to scratch) }
+fn push_difference_nearest(setting: Setting, out: &mut Vec<Instr>) -> Result<(), AllocError>
+    requires to_stored { IsStored setting.to }
+    requires scratch { setting.scratch ≤ GREATEST_SCRATCH }
+    ensures { OnOk result (out.new.items ≡ out.old.items ++ difference_nearest setting.left setting.right setting.to setting.scratch) }
 {
-    if all_unsigned(left, right, to) {
-        push_low_word(BinaryOperator::Sub, scratch, out)?;
+    if all_unsigned(setting) {
+        push_low_word(BinaryOperator::Sub, setting.scratch, out)?;
         out.push(Instr::I64Const(0))?;
-        push_less_chosen(scratch + 5, scratch + 4, to, scratch, out)?;
+        push_less_chosen(
+            setting.scratch + 5,
+            setting.scratch + 4,
+            setting.to,
+            setting.scratch,
+            out,
+        )?;
         Ok(())
-    } else if all_signed(left, right, to) {
-        push_low_word(BinaryOperator::Sub, scratch, out)?;
-        push_bound(false, to, scratch + 5, out)?;
-        push_crossed_chosen(Comparison::GtS, to, scratch, out)?;
+    } else if all_signed(setting) {
+        push_low_word(BinaryOperator::Sub, setting.scratch, out)?;
+        push_bound(false, setting.to, setting.scratch + 5, out)?;
+        push_crossed_chosen(Comparison::GtS, setting.to, setting.scratch, out)?;
         Ok(())
     } else {
-        push_difference_words(left, right, scratch, out)?;
-        push_nearest(false, to, scratch, out)?;
+        push_difference_words(setting, out)?;
+        push_nearest(false, setting.to, setting.scratch, out)?;
         Ok(())
     }
 }
 
 /// Appends the code of `*|`.
-pub fn push_wide_product_sat(
-    left: IntTy,
-    right: IntTy,
-    to: IntTy,
-    scratch: u32,
-    out: &mut Vec<Instr>,
-) -> Result<(), AllocError>
-    requires to_stored { IsStored to }
-    requires scratch { scratch ≤ 4294967287 }
-    ensures { OnOk result (out.new.items ≡ out.old.items ++ wide_product_sat_code left right to scratch) }
+pub fn push_wide_product_sat(setting: Setting, out: &mut Vec<Instr>) -> Result<(), AllocError>
+    requires to_stored { IsStored setting.to }
+    requires scratch { setting.scratch ≤ GREATEST_SCRATCH }
+    ensures { OnOk result (out.new.items ≡ out.old.items ++ wide_product_sat_code setting.left setting.right setting.to setting.scratch) }
 {
-    push_spread(left, right, scratch, out)?;
-    push_product_words(left, right, scratch, out)?;
-    push_nearest(both_unsigned(left, right), to, scratch, out)?;
+    push_spread(setting, out)?;
+    push_product_words(setting, out)?;
+    push_nearest(
+        both_unsigned(setting.left, setting.right),
+        setting.to,
+        setting.scratch,
+        out,
+    )?;
     Ok(())
 }
 
@@ -216,7 +210,7 @@ fn push_nearest(
     out: &mut Vec<Instr>,
 ) -> Result<(), AllocError>
     requires to_stored { IsStored to }
-    requires scratch { scratch ≤ 4294967287 }
+    requires scratch { scratch ≤ GREATEST_SCRATCH }
     ensures { OnOk result (out.new.items ≡ out.old.items ++ nearest never_negative to scratch) }
 {
     out.push(Instr::LocalSet(scratch + 7))?;

@@ -4,6 +4,7 @@ ghost use Rattle.zw_num.specs.Arithmetic.{least};
 ghost use Rattle.zw_num.specs.declared.int_ty.IntTy.TheVariants.{Sized};
 ghost use Rattle.zw_safety_narrow.specs.Code.{if_panics};
 ghost use Rattle.zw_safety_narrow.specs.Operators.{IsStored};
+ghost use Rattle.zw_safety_narrow.specs.declared.setting.TheConstants.{GREATEST_SCRATCH};
 ghost use Rattle.zw_safety_wide.specs.WideSignedCode.{are_signed_shares, are_wide_shares, quotient_of, remainder_of, lacking, lacking_tested, shared, wide_quotient_code, wide_rest_code, across, floored_rest, floored_quotient, wide_modulo_code, wide_floor_code, left_tested, wide_exact_quotient_code};
 ghost use Rattle.zw_safety_words.specs.WideCode.{settled};
 ghost use Rattle.zw_session.specs.Causes.{integer_overflow};
@@ -11,7 +12,7 @@ ghost use Rattle.zw_session.specs.Causes.{integer_overflow};
 use crate::casts::greatest_signed;
 use std::alloc::AllocError;
 use zw_num::IntTy;
-use zw_safety_narrow::{INTEGER_OVERFLOW, holds, push_if_panics, width};
+use zw_safety_narrow::{INTEGER_OVERFLOW, Setting, holds, push_if_panics, width};
 use zw_safety_words::{
     both_fit, both_unsigned, is_signed, push_both_got, push_settled, push_spread, push_zero_tested,
 };
@@ -21,120 +22,100 @@ use zw_wasm::{BinaryOperator, Comparison, Conversion, Instr, ValType};
 const REMAINDER_LEFT: u8 = 8;
 
 /// Appends the code of `/` and `@divTrunc`.
-pub fn push_wide_quotient(
-    left: IntTy,
-    right: IntTy,
-    to: IntTy,
-    scratch: u32,
-    out: &mut Vec<Instr>,
-) -> Result<(), AllocError>
-    requires to_stored { IsStored to }
-    requires scratch { scratch ≤ 4294967287 }
-    ensures { OnOk result (out.new.items ≡ out.old.items ++ wide_quotient_code left right to scratch) }
+pub fn push_wide_quotient(setting: Setting, out: &mut Vec<Instr>) -> Result<(), AllocError>
+    requires to_stored { IsStored setting.to }
+    requires scratch { setting.scratch ≤ GREATEST_SCRATCH }
+    ensures { OnOk result (out.new.items ≡ out.old.items ++ wide_quotient_code setting.left setting.right setting.to setting.scratch) }
 {
-    push_spread(left, right, scratch, out)?;
-    push_zero_tested(scratch, out)?;
-    push_lacking_tested(left, right, to, scratch, out)?;
-    push_shared(quotient_of(left, right), scratch, out)?;
-    push_settled(to, out)?;
+    push_spread(setting, out)?;
+    push_zero_tested(setting.scratch, out)?;
+    push_lacking_tested(setting, out)?;
+    push_shared(
+        quotient_of(setting.left, setting.right),
+        setting.scratch,
+        out,
+    )?;
+    push_settled(setting.to, out)?;
     Ok(())
 }
 
 /// Appends the code of `%` and `@rem`.
-pub fn push_wide_rest(
-    left: IntTy,
-    right: IntTy,
-    to: IntTy,
-    scratch: u32,
-    out: &mut Vec<Instr>,
-) -> Result<(), AllocError>
-    requires { scratch ≤ 4294967287 }
-    ensures { OnOk result (out.new.items ≡ out.old.items ++ wide_rest_code left right to scratch) }
+pub fn push_wide_rest(setting: Setting, out: &mut Vec<Instr>) -> Result<(), AllocError>
+    requires { setting.scratch ≤ GREATEST_SCRATCH }
+    ensures { OnOk result (out.new.items ≡ out.old.items ++ wide_rest_code setting.left setting.right setting.to setting.scratch) }
 {
-    push_spread(left, right, scratch, out)?;
-    push_zero_tested(scratch, out)?;
-    push_shared(remainder_of(left, right), scratch, out)?;
-    push_settled(to, out)?;
+    push_spread(setting, out)?;
+    push_zero_tested(setting.scratch, out)?;
+    push_shared(
+        remainder_of(setting.left, setting.right),
+        setting.scratch,
+        out,
+    )?;
+    push_settled(setting.to, out)?;
     Ok(())
 }
 
 /// Appends the code of `@mod`.
-pub fn push_wide_modulo(
-    left: IntTy,
-    right: IntTy,
-    to: IntTy,
-    scratch: u32,
-    out: &mut Vec<Instr>,
-) -> Result<(), AllocError>
-    requires { scratch ≤ 4294967287 }
-    ensures { OnOk result (out.new.items ≡ out.old.items ++ wide_modulo_code left right to scratch) }
+pub fn push_wide_modulo(setting: Setting, out: &mut Vec<Instr>) -> Result<(), AllocError>
+    requires { setting.scratch ≤ GREATEST_SCRATCH }
+    ensures { OnOk result (out.new.items ≡ out.old.items ++ wide_modulo_code setting.left setting.right setting.to setting.scratch) }
 {
-    push_spread(left, right, scratch, out)?;
-    push_zero_tested(scratch, out)?;
-    if both_unsigned(left, right) {
-        push_shared(BinaryOperator::RemU, scratch, out)?;
-        return push_settled(to, out);
+    push_spread(setting, out)?;
+    push_zero_tested(setting.scratch, out)?;
+    if both_unsigned(setting.left, setting.right) {
+        push_shared(BinaryOperator::RemU, setting.scratch, out)?;
+        return push_settled(setting.to, out);
     }
-    push_floored_rest(scratch, out)?;
-    push_settled(to, out)
+    push_floored_rest(setting.scratch, out)?;
+    push_settled(setting.to, out)
 }
 
 /// Appends the code of `@divFloor`.
-pub fn push_wide_floor(
-    left: IntTy,
-    right: IntTy,
-    to: IntTy,
-    scratch: u32,
-    out: &mut Vec<Instr>,
-) -> Result<(), AllocError>
-    requires to_stored { IsStored to }
-    requires scratch { scratch ≤ 4294967287 }
-    ensures { OnOk result (out.new.items ≡ out.old.items ++ wide_floor_code left right to scratch) }
+pub fn push_wide_floor(setting: Setting, out: &mut Vec<Instr>) -> Result<(), AllocError>
+    requires to_stored { IsStored setting.to }
+    requires scratch { setting.scratch ≤ GREATEST_SCRATCH }
+    ensures { OnOk result (out.new.items ≡ out.old.items ++ wide_floor_code setting.left setting.right setting.to setting.scratch) }
 {
-    push_spread(left, right, scratch, out)?;
-    push_zero_tested(scratch, out)?;
-    push_lacking_tested(left, right, to, scratch, out)?;
-    if both_unsigned(left, right) {
-        push_shared(BinaryOperator::DivU, scratch, out)?;
-        return push_settled(to, out);
+    push_spread(setting, out)?;
+    push_zero_tested(setting.scratch, out)?;
+    push_lacking_tested(setting, out)?;
+    if both_unsigned(setting.left, setting.right) {
+        push_shared(BinaryOperator::DivU, setting.scratch, out)?;
+        return push_settled(setting.to, out);
     }
-    push_floored_quotient(scratch, out)?;
-    push_settled(to, out)
+    push_floored_quotient(setting.scratch, out)?;
+    push_settled(setting.to, out)
 }
 
 /// Appends the code of `@divExact`.
-pub fn push_wide_exact_quotient(
-    left: IntTy,
-    right: IntTy,
-    to: IntTy,
-    scratch: u32,
-    out: &mut Vec<Instr>,
-) -> Result<(), AllocError>
-    requires to_stored { IsStored to }
-    requires scratch { scratch ≤ 4294967287 }
-    ensures { OnOk result (out.new.items ≡ out.old.items ++ wide_exact_quotient_code left right to scratch) }
+pub fn push_wide_exact_quotient(setting: Setting, out: &mut Vec<Instr>) -> Result<(), AllocError>
+    requires to_stored { IsStored setting.to }
+    requires scratch { setting.scratch ≤ GREATEST_SCRATCH }
+    ensures { OnOk result (out.new.items ≡ out.old.items ++ wide_exact_quotient_code setting.left setting.right setting.to setting.scratch) }
 {
-    push_spread(left, right, scratch, out)?;
-    push_zero_tested(scratch, out)?;
-    push_lacking_tested(left, right, to, scratch, out)?;
-    push_whole_quotient(left, right, to, scratch, out)?;
+    push_spread(setting, out)?;
+    push_zero_tested(setting.scratch, out)?;
+    push_lacking_tested(setting, out)?;
+    push_whole_quotient(setting, out)?;
     Ok(())
 }
 
 /// Appends code that leaves a quotient, or panics where a rest is left.
-fn push_whole_quotient(
-    left: IntTy,
-    right: IntTy,
-    to: IntTy,
-    scratch: u32,
-    out: &mut Vec<Instr>,
-) -> Result<(), AllocError>
-    requires { scratch ≤ 4294967287 }
-    ensures { OnOk result (out.new.items ≡ out.old.items ++ (left_tested (remainder_of left right) scratch ++ (shared (quotient_of left right) scratch ++ settled to))) }
+fn push_whole_quotient(setting: Setting, out: &mut Vec<Instr>) -> Result<(), AllocError>
+    requires { setting.scratch ≤ GREATEST_SCRATCH }
+    ensures { OnOk result (out.new.items ≡ out.old.items ++ (left_tested (remainder_of setting.left setting.right) setting.scratch ++ (shared (quotient_of setting.left setting.right) setting.scratch ++ settled setting.to))) }
 {
-    push_left_tested(remainder_of(left, right), scratch, out)?;
-    push_shared(quotient_of(left, right), scratch, out)?;
-    push_settled(to, out)?;
+    push_left_tested(
+        remainder_of(setting.left, setting.right),
+        setting.scratch,
+        out,
+    )?;
+    push_shared(
+        quotient_of(setting.left, setting.right),
+        setting.scratch,
+        out,
+    )?;
+    push_settled(setting.to, out)?;
     Ok(())
 }
 
@@ -180,7 +161,7 @@ pub fn push_shared(
     scratch: u32,
     out: &mut Vec<Instr>,
 ) -> Result<(), AllocError>
-    requires { scratch ≤ 4294967287 }
+    requires { scratch ≤ GREATEST_SCRATCH }
     ensures { OnOk result (out.new.items ≡ out.old.items ++ shared operator scratch) }
 {
     push_both_got(scratch, out)?;
@@ -189,28 +170,22 @@ pub fn push_shared(
 }
 
 /// Appends code that panics where the type lacks the quotient of signed numbers.
-fn push_lacking_tested(
-    left: IntTy,
-    right: IntTy,
-    to: IntTy,
-    scratch: u32,
-    out: &mut Vec<Instr>,
-) -> Result<(), AllocError>
-    requires to_stored { IsStored to }
-    requires scratch { scratch ≤ 4294967287 }
-    ensures { OnOk result (out.new.items ≡ out.old.items ++ lacking_tested left right to scratch) }
+fn push_lacking_tested(setting: Setting, out: &mut Vec<Instr>) -> Result<(), AllocError>
+    requires to_stored { IsStored setting.to }
+    requires scratch { setting.scratch ≤ GREATEST_SCRATCH }
+    ensures { OnOk result (out.new.items ≡ out.old.items ++ lacking_tested setting.left setting.right setting.to setting.scratch) }
 {
-    if both_unsigned(left, right) {
+    if both_unsigned(setting.left, setting.right) {
         Ok(())
     } else {
-        push_lacking_panics(to, scratch, out)
+        push_lacking_panics(setting.to, setting.scratch, out)
     }
 }
 
 /// Appends that test, and the panic.
 fn push_lacking_panics(to: IntTy, scratch: u32, out: &mut Vec<Instr>) -> Result<(), AllocError>
     requires to_stored { IsStored to }
-    requires scratch { scratch ≤ 4294967287 }
+    requires scratch { scratch ≤ GREATEST_SCRATCH }
     ensures { OnOk result (out.new.items ≡ out.old.items ++ (lacking to scratch ++ if_panics integer_overflow)) }
 {
     push_lacking(to, scratch, out)?;
@@ -221,7 +196,7 @@ fn push_lacking_panics(to: IntTy, scratch: u32, out: &mut Vec<Instr>) -> Result<
 /// Appends the test for the least value of the type by -1.
 fn push_lacking(to: IntTy, scratch: u32, out: &mut Vec<Instr>) -> Result<(), AllocError>
     requires to_stored { IsStored to }
-    requires scratch { scratch ≤ 4294967287 }
+    requires scratch { scratch ≤ GREATEST_SCRATCH }
     ensures { OnOk result (out.new.items ≡ out.old.items ++ lacking to scratch) }
 {
     out.push(Instr::LocalGet(scratch + 5))?;
@@ -259,7 +234,7 @@ fn least_of_bits(bits: u8) -> i64
 
 /// Appends the test whether the rest in its local lies on the other side of 0 than the divisor.
 fn push_across(scratch: u32, out: &mut Vec<Instr>) -> Result<(), AllocError>
-    requires { scratch ≤ 4294967287 }
+    requires { scratch ≤ GREATEST_SCRATCH }
     ensures { OnOk result (out.new.items ≡ out.old.items ++ across scratch) }
 {
     out.push(Instr::LocalGet(scratch + 6))?;
@@ -276,7 +251,7 @@ fn push_across(scratch: u32, out: &mut Vec<Instr>) -> Result<(), AllocError>
 
 /// Appends code that leaves the rest of a quotient that is rounded down.
 fn push_floored_rest(scratch: u32, out: &mut Vec<Instr>) -> Result<(), AllocError>
-    requires { scratch ≤ 4294967287 }
+    requires { scratch ≤ GREATEST_SCRATCH }
     ensures { OnOk result (out.new.items ≡ out.old.items ++ floored_rest scratch) }
 {
     push_shared(BinaryOperator::RemS, scratch, out)?;
@@ -291,7 +266,7 @@ fn push_floored_rest(scratch: u32, out: &mut Vec<Instr>) -> Result<(), AllocErro
 
 /// Appends code that leaves a quotient that is rounded down.
 fn push_floored_quotient(scratch: u32, out: &mut Vec<Instr>) -> Result<(), AllocError>
-    requires { scratch ≤ 4294967287 }
+    requires { scratch ≤ GREATEST_SCRATCH }
     ensures { OnOk result (out.new.items ≡ out.old.items ++ floored_quotient scratch) }
 {
     push_shared(BinaryOperator::RemS, scratch, out)?;
@@ -309,7 +284,7 @@ fn push_left_tested(
     scratch: u32,
     out: &mut Vec<Instr>,
 ) -> Result<(), AllocError>
-    requires { scratch ≤ 4294967287 }
+    requires { scratch ≤ GREATEST_SCRATCH }
     ensures { OnOk result (out.new.items ≡ out.old.items ++ left_tested operator scratch) }
 {
     push_shared(operator, scratch, out)?;

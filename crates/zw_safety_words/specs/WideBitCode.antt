@@ -3,12 +3,15 @@ use Rattle.std.specs.Prelude.{ℕ, pos, negsuc, ◌+◌, ◌^◌, Bool, true, fa
 use Rattle.zw_num.specs.Arithmetic.{width}
 use Rattle.zw_num.specs.declared.int_ty.IntTy.{IntTy}
 use Rattle.zw_num.specs.declared.int_ty.IntTy.TheVariants.{Sized, Comptime}
+use Rattle.zw_num.specs.declared.operator.Bitwise.{Bitwise}
+use Rattle.zw_num.specs.declared.operator.Bitwise.TheVariants as bitwise
 use Rattle.zw_safety_narrow.specs.CastCode.{holds}
 use Rattle.zw_safety_narrow.specs.Code.{if_panics}
 use Rattle.zw_safety_narrow.specs.ShiftCode.{right_operator}
+use Rattle.zw_safety_narrow.specs.declared.setting.Setting.{Setting}
 use Rattle.zw_safety_words.specs.WideCode.{widened, settled, both_widened, spread, wide_fitted, difference_test, tested}
 use Rattle.zw_wasm.specs.declared.module.BinaryOperator.{BinaryOperator}
-use Rattle.zw_wasm.specs.declared.module.BinaryOperator.TheVariants.{Shl}
+use Rattle.zw_wasm.specs.declared.module.BinaryOperator.TheVariants.{Shl, And, Or, Xor}
 use Rattle.zw_wasm.specs.declared.module.Comparison.TheVariants.{GeU}
 use Rattle.zw_wasm.specs.declared.module.Instr.{Instr}
 use Rattle.zw_wasm.specs.declared.module.Instr.TheVariants.{LocalGet, LocalSet, I64Const, IsZero, Compare, Binary}
@@ -17,6 +20,15 @@ use Rattle.zw_wasm.specs.declared.module.ValType.TheVariants.{I64}
 -- an operator on the bits of both operands
 abbrev pub wide_word_code : BinaryOperator → IntTy → IntTy → IntTy → ℕ → List Instr
 wide_word_code operator left right to scratch = both_widened left right scratch ++ (Binary I64 operator ∷ settled to)
+
+-- `&`, `|` and `^`
+abbrev pub bitwise_by : Bitwise → BinaryOperator
+bitwise_by bitwise.And = And
+bitwise_by bitwise.Or = Or
+bitwise_by bitwise.Xor = Xor
+
+abbrev pub wide_code_of_bitwise : Bitwise → Setting → List Instr
+wide_code_of_bitwise operator t = wide_word_code (bitwise_by operator) t.left t.right t.to t.scratch
 
 -- ---- shifts
 

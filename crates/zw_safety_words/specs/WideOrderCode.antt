@@ -2,8 +2,13 @@
 use Rattle.std.specs.Prelude.{ℕ, ℤ, pos, ◌+◌, Bool, true, false, ◌&&◌, nat_lt, List, [], ◌∷◌, ◌++◌, if◌then◌else◌}
 use Rattle.zw_num.specs.declared.int_ty.IntTy.{IntTy}
 use Rattle.zw_num.specs.declared.int_ty.IntTy.TheVariants.{Sized, Comptime}
+use Rattle.zw_num.specs.declared.operator.Comparison.{Comparison}
+use Rattle.zw_num.specs.declared.operator.Comparison.TheVariants as comparison
+use Rattle.zw_num.specs.declared.operator.Extreme.{Extreme}
+use Rattle.zw_num.specs.declared.operator.Extreme.TheVariants as extreme
 use Rattle.zw_safety_narrow.specs.CompareCode.{is_unsigned}
 use Rattle.zw_safety_narrow.specs.Operators.{fills_word, truth}
+use Rattle.zw_safety_narrow.specs.declared.setting.Setting.{Setting}
 use Rattle.zw_safety_words.specs.declared.order.Compared.{Compared}
 use Rattle.zw_safety_words.specs.WideBitCode.{both_got}
 use Rattle.zw_safety_words.specs.WideCode.{settled, both_widened, spread, is_signed}
@@ -81,3 +86,22 @@ greater = record { signed = GtS; unsigned = GtU; left_below = false; right_below
 
 abbrev pub greater_or_equal : Compared
 greater_or_equal = record { signed = GeS; unsigned = GeU; left_below = false; right_below = true }
+
+abbrev pub compared_by : Comparison → Compared
+compared_by comparison.Equal = equal
+compared_by comparison.NotEqual = not_equal
+compared_by comparison.Less = less
+compared_by comparison.LessOrEqual = less_or_equal
+compared_by comparison.Greater = greater
+compared_by comparison.GreaterOrEqual = greater_or_equal
+
+abbrev pub wide_code_of_comparison : Comparison → Setting → List Instr
+wide_code_of_comparison operator t = wide_comparison_code (compared_by operator) t.left t.right t.to t.scratch
+
+-- `@min` and `@max`: by which comparison the left operand is chosen
+abbrev pub chosen_by : Extreme → Compared
+chosen_by extreme.Min = less
+chosen_by extreme.Max = greater
+
+abbrev pub wide_code_of_extreme : Extreme → Setting → List Instr
+wide_code_of_extreme operator t = wide_choice_code (chosen_by operator) t.left t.right t.to t.scratch

@@ -1,12 +1,13 @@
 // The code of comparisons, and of the lesser and the greater of two numbers, where a type has more than 32 bits.
 ghost use Rattle.std.specs.Prelude.{◌≡◌, ◌≤◌, ◌++◌, OnOk};
-ghost use Rattle.zw_safety_words.specs.WideOrderCode.{fits_signed_long, both_fit, both_unsigned, signed_local, below_zero, mixed_code, relation_code, compared_code, wide_comparison_code, wide_choice_code};
+ghost use Rattle.zw_safety_narrow.specs.declared.setting.TheConstants.{GREATEST_SCRATCH};
+ghost use Rattle.zw_safety_words.specs.WideOrderCode.{compared_by, chosen_by, wide_code_of_comparison, wide_code_of_extreme, fits_signed_long, both_fit, both_unsigned, signed_local, below_zero, mixed_code, relation_code, compared_code, wide_comparison_code, wide_choice_code};
 
 use crate::bits::push_both_got;
-use crate::wide::{fills_word, is_signed, push_both_widened, push_settled, push_spread};
+use crate::widths::{fills_word, is_signed, push_both_widened, push_settled, push_spread};
 use std::alloc::AllocError;
-use zw_num::IntTy;
-use zw_safety_narrow::is_unsigned;
+use zw_num::{Extreme, IntTy};
+use zw_safety_narrow::{Setting, is_unsigned};
 use zw_wasm::{Comparison, Conversion, Instr, ValType};
 
 /// A comparison: of numbers that are read with their sign, of numbers that are read without one, and what it gives where the left
@@ -19,92 +20,156 @@ pub struct Compared {
     pub right_below: bool,
 }
 
-/// Appends the code of a comparison, whose truth value is one of the type.
+const COMPARED_EQUAL: Compared = Compared {
+    signed: Comparison::Eq,
+    unsigned: Comparison::Eq,
+    left_below: false,
+    right_below: false,
+};
+
+const COMPARED_NOT_EQUAL: Compared = Compared {
+    signed: Comparison::Ne,
+    unsigned: Comparison::Ne,
+    left_below: true,
+    right_below: true,
+};
+
+const COMPARED_LESS: Compared = Compared {
+    signed: Comparison::LtS,
+    unsigned: Comparison::LtU,
+    left_below: true,
+    right_below: false,
+};
+
+const COMPARED_LESS_OR_EQUAL: Compared = Compared {
+    signed: Comparison::LeS,
+    unsigned: Comparison::LeU,
+    left_below: true,
+    right_below: false,
+};
+
+const COMPARED_GREATER: Compared = Compared {
+    signed: Comparison::GtS,
+    unsigned: Comparison::GtU,
+    left_below: false,
+    right_below: true,
+};
+
+const COMPARED_GREATER_OR_EQUAL: Compared = Compared {
+    signed: Comparison::GeS,
+    unsigned: Comparison::GeU,
+    left_below: false,
+    right_below: true,
+};
+
+/// Appends the code of a comparison.
 pub fn push_wide_comparison(
-    o: Compared,
-    left: IntTy,
-    right: IntTy,
-    to: IntTy,
-    scratch: u32,
+    operator: zw_num::Comparison,
+    setting: Setting,
     out: &mut Vec<Instr>,
 ) -> Result<(), AllocError>
-    requires { scratch ≤ 4294967287 }
-    ensures { OnOk result (out.new.items ≡ out.old.items ++ wide_comparison_code o left right to scratch) }
+    requires { setting.scratch ≤ GREATEST_SCRATCH }
+    ensures { OnOk result (out.new.items ≡ out.old.items ++ wide_code_of_comparison operator setting) }
 {
-    push_compared(o, left, right, scratch, out)?;
-    if !fills_word(to) {
+    push_wide_compared(compared_by(operator), setting, out)
+}
+
+/// What a comparison is in code.
+fn compared_by(operator: zw_num::Comparison) -> Compared
+    ensures { result ≡ compared_by operator }
+{
+    match operator {
+        zw_num::Comparison::Equal => COMPARED_EQUAL,
+        zw_num::Comparison::NotEqual => COMPARED_NOT_EQUAL,
+        zw_num::Comparison::Less => COMPARED_LESS,
+        zw_num::Comparison::LessOrEqual => COMPARED_LESS_OR_EQUAL,
+        zw_num::Comparison::Greater => COMPARED_GREATER,
+        zw_num::Comparison::GreaterOrEqual => COMPARED_GREATER_OR_EQUAL,
+    }
+}
+
+/// Appends the code of `@min` or `@max` of two operands.
+pub fn push_wide_extreme(
+    operator: Extreme,
+    setting: Setting,
+    out: &mut Vec<Instr>,
+) -> Result<(), AllocError>
+    requires { setting.scratch ≤ GREATEST_SCRATCH }
+    ensures { OnOk result (out.new.items ≡ out.old.items ++ wide_code_of_extreme operator setting) }
+{
+    push_wide_choice(chosen_by(operator), setting, out)
+}
+
+/// The comparison by which one of two operands is chosen.
+fn chosen_by(operator: Extreme) -> Compared
+    ensures { result ≡ chosen_by operator }
+{
+    match operator {
+        Extreme::Min => COMPARED_LESS,
+        Extreme::Max => COMPARED_GREATER,
+    }
+}
+
+/// Appends the code of a comparison, whose truth value is one of the type.
+fn push_wide_compared(o: Compared, setting: Setting, out: &mut Vec<Instr>) -> Result<(), AllocError>
+    requires { setting.scratch ≤ GREATEST_SCRATCH }
+    ensures { OnOk result (out.new.items ≡ out.old.items ++ wide_comparison_code o setting.left setting.right setting.to setting.scratch) }
+{
+    push_compared(o, setting, out)?;
+    if !fills_word(setting.to) {
         out.push(Instr::Convert(Conversion::ExtendU))?;
     }
     Ok(())
 }
 
 /// Appends code that compares two operands.
-fn push_compared(
-    o: Compared,
-    left: IntTy,
-    right: IntTy,
-    scratch: u32,
-    out: &mut Vec<Instr>,
-) -> Result<(), AllocError>
-    requires { scratch ≤ 4294967287 }
-    ensures { OnOk result (out.new.items ≡ out.old.items ++ compared_code o left right scratch) }
+fn push_compared(o: Compared, setting: Setting, out: &mut Vec<Instr>) -> Result<(), AllocError>
+    requires { setting.scratch ≤ GREATEST_SCRATCH }
+    ensures { OnOk result (out.new.items ≡ out.old.items ++ compared_code o setting.left setting.right setting.scratch) }
 {
-    if both_fit(left, right) {
-        push_both_widened(left, right, scratch, out)?;
+    if both_fit(setting.left, setting.right) {
+        push_both_widened(setting, out)?;
         out.push(Instr::Compare(ValType::I64, o.signed))?;
         Ok(())
-    } else if both_unsigned(left, right) {
-        push_both_widened(left, right, scratch, out)?;
+    } else if both_unsigned(setting.left, setting.right) {
+        push_both_widened(setting, out)?;
         out.push(Instr::Compare(ValType::I64, o.unsigned))?;
         Ok(())
     } else {
-        push_spread(left, right, scratch, out)?;
-        push_both_got(scratch, out)?;
-        push_mixed(o, left, scratch, out)?;
+        push_spread(setting, out)?;
+        push_both_got(setting.scratch, out)?;
+        push_mixed(o, setting.left, setting.scratch, out)?;
         Ok(())
     }
 }
 
 /// Appends the code of the lesser or the greater of two: the left operand where it compares so with the right one, and else that.
-pub fn push_wide_choice(
-    o: Compared,
-    left: IntTy,
-    right: IntTy,
-    to: IntTy,
-    scratch: u32,
-    out: &mut Vec<Instr>,
-) -> Result<(), AllocError>
-    requires { scratch ≤ 4294967287 }
-    ensures { OnOk result (out.new.items ≡ out.old.items ++ wide_choice_code o left right to scratch) }
+fn push_wide_choice(o: Compared, setting: Setting, out: &mut Vec<Instr>) -> Result<(), AllocError>
+    requires { setting.scratch ≤ GREATEST_SCRATCH }
+    ensures { OnOk result (out.new.items ≡ out.old.items ++ wide_choice_code o setting.left setting.right setting.to setting.scratch) }
 {
-    push_spread(left, right, scratch, out)?;
-    push_both_got(scratch, out)?;
-    push_both_got(scratch, out)?;
-    push_relation(o, left, right, scratch, out)?;
+    push_spread(setting, out)?;
+    push_both_got(setting.scratch, out)?;
+    push_both_got(setting.scratch, out)?;
+    push_relation(o, setting, out)?;
     out.push(Instr::Select)?;
-    push_settled(to, out)?;
+    push_settled(setting.to, out)?;
     Ok(())
 }
 
 /// Appends code that compares operands in 64 bits, which are in their locals too.
-fn push_relation(
-    o: Compared,
-    left: IntTy,
-    right: IntTy,
-    scratch: u32,
-    out: &mut Vec<Instr>,
-) -> Result<(), AllocError>
-    requires { scratch ≤ 4294967287 }
-    ensures { OnOk result (out.new.items ≡ out.old.items ++ relation_code o left right scratch) }
+fn push_relation(o: Compared, setting: Setting, out: &mut Vec<Instr>) -> Result<(), AllocError>
+    requires { setting.scratch ≤ GREATEST_SCRATCH }
+    ensures { OnOk result (out.new.items ≡ out.old.items ++ relation_code o setting.left setting.right setting.scratch) }
 {
-    if both_fit(left, right) {
+    if both_fit(setting.left, setting.right) {
         out.push(Instr::Compare(ValType::I64, o.signed))?;
         Ok(())
-    } else if both_unsigned(left, right) {
+    } else if both_unsigned(setting.left, setting.right) {
         out.push(Instr::Compare(ValType::I64, o.unsigned))?;
         Ok(())
     } else {
-        push_mixed(o, left, scratch, out)
+        push_mixed(o, setting.left, setting.scratch, out)
     }
 }
 
@@ -115,7 +180,7 @@ fn push_mixed(
     scratch: u32,
     out: &mut Vec<Instr>,
 ) -> Result<(), AllocError>
-    requires { scratch ≤ 4294967287 }
+    requires { scratch ≤ GREATEST_SCRATCH }
     ensures { OnOk result (out.new.items ≡ out.old.items ++ mixed_code o left scratch) }
 {
     out.push(Instr::Compare(ValType::I64, o.unsigned))?;
@@ -141,7 +206,7 @@ fn below_zero(o: Compared, left: IntTy) -> i32
 
 /// The local of the signed operand.
 fn signed_local(left: IntTy, scratch: u32) -> u32
-    requires { scratch ≤ 4294967287 }
+    requires { scratch ≤ GREATEST_SCRATCH }
     ensures { result ≡ signed_local left scratch }
 {
     if is_signed(left) {

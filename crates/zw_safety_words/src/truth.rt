@@ -2,7 +2,7 @@
 ghost use Rattle.std.specs.Prelude.{◌≡◌, ◌++◌, OnOk};
 ghost use Rattle.zw_safety_words.specs.WideTruthCode.{wide_not_code};
 
-use crate::wide::{fills_word, push_widened};
+use crate::widths::{fills_word, push_widened};
 use std::alloc::AllocError;
 use zw_num::IntTy;
 use zw_wasm::{Conversion, Instr, ValType};

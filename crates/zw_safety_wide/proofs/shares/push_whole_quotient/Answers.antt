@@ -9,7 +9,7 @@ returns c =
     let out = c.args.out.now.items in
     let first = c.push_left_tested.new.out.items in
     in_three out first c.push_shared.new.out.items c.push_settled.new.out.items
-    (left_tested (remainder_of c.args.left c.args.right) c.args.scratch) (shared (quotient_of c.args.left c.args.right) c.args.scratch) (settled c.args.to)
-    (c.in_ok-push_left_tested.ensures ∙ ap (λ o. out ++ left_tested o c.args.scratch) c.remainder_of.ensures)
-    (c.in_ok-push_shared.ensures ∙ ap (λ o. first ++ shared o c.args.scratch) c.quotient_of.ensures)
+    (left_tested (remainder_of c.args.setting.left c.args.setting.right) c.args.setting.scratch) (shared (quotient_of c.args.setting.left c.args.setting.right) c.args.setting.scratch) (settled c.args.setting.to)
+    (c.in_ok-push_left_tested.ensures ∙ ap (λ o. out ++ left_tested o c.args.setting.scratch) c.remainder_of.ensures)
+    (c.in_ok-push_shared.ensures ∙ ap (λ o. first ++ shared o c.args.setting.scratch) c.quotient_of.ensures)
     c.in_ok-push_settled.ensures

@@ -1,4 +1,4 @@
-use Rattle.std.proofs.Common.{[], ◌∷◌, ◌++◌, ap, ◌∙◌}
+use Rattle.std.proofs.Common.{[], ◌∷◌}
 use Rattle.zw_num.specs.Arithmetic.{width}
 use Rattle.zw_safety_words.proofs.Appended.{in_three}
 use Rattle.zw_safety_words.specs.WideBitCode.{wide_amount}
@@ -12,6 +12,5 @@ pub returns : goal.returns
 returns c =
     let out = c.args.out.now.items in
     in_three out c.push_wide_amount.new.out.items c.push.new.self.items c.push_wide_fitted.new.out.items
-    (wide_amount c.args.left c.args.right (width c.args.to) c.args.scratch) (Binary I64 Shl ∷ []) (wide_fitted c.args.to)
-    (c.in_ok-push_wide_amount.ensures ∙ ap (λ w. out ++ wide_amount c.args.left c.args.right w c.args.scratch) c.width.ensures)
-    c.in_ok-push.ensures.items c.in_ok-push_wide_fitted.ensures
+    (wide_amount c.args.setting.left c.args.setting.right (width c.args.setting.to) c.args.setting.scratch) (Binary I64 Shl ∷ []) (wide_fitted c.args.setting.to)
+    c.in_ok-push_wide_amount.ensures c.in_ok-push.ensures.items c.in_ok-push_wide_fitted.ensures

@@ -13,6 +13,6 @@ returns c =
     let out = c.args.out.now.items in
     let first = c.push_wide_amount.new.out.items in
     in_three out first c.push.new.self.items c.push_settled.new.out.items
-    (wide_amount c.args.left c.args.right (width c.args.to) c.args.scratch) (Binary I64 (right_operator c.args.left) ∷ []) (settled c.args.to)
-    (c.in_ok-push_wide_amount.ensures ∙ ap (λ w. out ++ wide_amount c.args.left c.args.right w c.args.scratch) c.width.ensures)
+    (wide_amount c.args.setting.left c.args.setting.right (width c.args.setting.to) c.args.setting.scratch) (Binary I64 (right_operator c.args.setting.left) ∷ []) (settled c.args.setting.to)
+    c.in_ok-push_wide_amount.ensures
     (c.in_ok-push.ensures.items ∙ ap (λ o. first ++ Binary I64 o ∷ []) c.right_operator.ensures) c.in_ok-push_settled.ensures

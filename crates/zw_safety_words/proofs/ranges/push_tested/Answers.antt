@@ -3,7 +3,7 @@ use Rattle.zw_safety_words.proofs.Appended.{in_three}
 use Rattle.zw_safety_narrow.specs.Code.{if_panics}
 use Rattle.zw_safety_words.specs.WideCode.{settled}
 use Rattle.zw_wasm.specs.declared.module.Instr.TheVariants.{LocalGet}
-use Rattle.zw_safety_words.proofs.wide.push_tested.Goals as goal
+use Rattle.zw_safety_words.proofs.ranges.push_tested.Goals as goal
 
 pub returns : goal.returns
 returns c =
