@@ -1,7 +1,7 @@
 -- What each operator and builtin means on whole numbers and truth values, family by family (Zig Language Reference 0.13.0, Operators
 -- and Builtin Functions), and a row for each: its operands, and what it can fault with. The law `faults_are_told` says that no meaning
 -- faults with anything else.
-use Rattle.std.specs.Prelude.{◌/◌, ℕ, ℤ, pos, neg_ℤ, ◌+ℤ◌, ◌-ℤ◌, ◌*ℤ◌, Bool, true, false, not, int_le, int_lt, unsigned_abs, count_ones, if◌then◌else◌, List, [], ◌∷◌, Result, Ok}
+use Rattle.std.specs.Prelude.{◌/◌, ℕ, ℤ, pos, neg_ℤ, ◌+ℤ◌, ◌-ℤ◌, ◌*ℤ◌, Bool, true, false, not, int_le, int_lt, unsigned_abs, count_ones, if◌then◌else◌, List, [], ◌∷◌, Contains, Result, Ok, MatchResult}
 use Rattle.std.specs.Ordering.{int_eq}
 use Rattle.std.specs.Int.{int_min, int_max}
 use Rattle.std.specs.Int.Count.{count_leading_zeros, count_trailing_zeros}
@@ -215,3 +215,7 @@ faults (family.Measure op) = []
 abbrev pub faults_in : IntTy → Operator → List NumFault
 faults_in (Sized signed bits) op = faults op
 faults_in Comptime op = Overflow ∷ faults op
+
+-- a meaning's fault, where it has one, is among these
+abbrev pub FaultsAmong : List NumFault → Result ℤ NumFault → Type 0
+FaultsAmong among result = MatchResult result (λ z. Unit {0}) (λ fault. Contains among fault)

@@ -24,12 +24,13 @@ pub use counting::{clz, ctz, pop_count};
 pub use division::{div_exact, div_floor, div_trunc, modulo, rem};
 pub use int_ty::IntTy;
 pub use laws::{
-    bit_operators, counts, exact_answers, quotients, reversals, saturated_values, twice,
-    type_ranges, unsigned_arithmetic, wrapped_values, wrapping_is_exact,
+    bit_operators, counts, exact_answers, faults_are_told, quotients, reversals, saturated_values,
+    twice, type_ranges, unsigned_arithmetic, wrapped_values, wrapping_is_exact,
 };
 pub use num_fault::NumFault;
 pub use operator::{
-    Arithmetic, Bitwise, Cast, Comparison, Count, Division, Extreme, Logic, Measure, Operator, Shift, Unary,
+    Arithmetic, Bitwise, Cast, Comparison, Count, Division, Extreme, Logic, Measure, Operator,
+    Shift, Unary,
 };
 pub use reversal::{bit_reverse, byte_swap};
 pub use saturating::{add_sat, mul_sat, shl_sat, sub_sat};
