@@ -1,7 +1,7 @@
 -- What each operator and builtin means on whole numbers and truth values, family by family (Zig Language Reference 0.13.0, Operators
 -- and Builtin Functions), and a row for each: its operands, and what it can fault with. The law `faults_are_told` says that no meaning
 -- faults with anything else.
-use Rattle.std.specs.Prelude.{◌/◌, ℕ, ℤ, pos, neg_ℤ, ◌+ℤ◌, ◌-ℤ◌, ◌*ℤ◌, Bool, true, false, not, int_le, int_lt, unsigned_abs, count_ones, if◌then◌else◌, List, [], ◌∷◌, Contains, Result, Ok, MatchResult}
+use Rattle.std.specs.Prelude.{◌≡◌, ◌/◌, ◌%◌, ◌≤ℤ◌, ℕ, ℤ, pos, neg_ℤ, ◌+ℤ◌, ◌-ℤ◌, ◌*ℤ◌, Bool, true, false, not, int_le, int_lt, unsigned_abs, count_ones, if◌then◌else◌, List, [], ◌∷◌, Contains, Result, Ok, MatchResult}
 use Rattle.std.specs.Ordering.{int_eq}
 use Rattle.std.specs.Int.{int_min, int_max}
 use Rattle.std.specs.Int.Count.{count_leading_zeros, count_trailing_zeros}
@@ -31,7 +31,7 @@ use Rattle.zw_num.specs.declared.operator.Logic.{Logic}
 use Rattle.zw_num.specs.declared.operator.Logic.TheVariants as logic
 use Rattle.zw_num.specs.declared.operator.Operator.{Operator}
 use Rattle.zw_num.specs.declared.operator.Operator.TheVariants as family
-use Rattle.zw_num.specs.Arithmetic.{exact, wrapped, saturated, cast_to, truncated, floored, rest_of, divided, exact_quotient, power, shifted, kept, none_lost, none_dropped, bits_and, bits_or, bits_xor, bits_not, pattern, reversed, width}
+use Rattle.zw_num.specs.Arithmetic.{IsIn, IsSized, exact, wrapped, saturated, cast_to, truncated, floored, rest_of, divided, exact_quotient, power, shifted, kept, none_lost, none_dropped, bits_and, bits_or, bits_xor, bits_not, pattern, reversed, width}
 
 -- ---- what each family means; `ty` is the type of the result
 
@@ -122,6 +122,23 @@ abbrev pub truth : Logic → Bool → Bool → Bool
 truth logic.And a b = if a then b else false
 truth logic.Or a b = if a then true else b
 truth logic.Not a b = not a
+
+-- ---- what the code asks of operands, beside that they are values of their types
+
+-- the amount of a saturating shift isn't negative
+abbrev pub IsAmountFor : Shift → ℤ → Type 0
+IsAmountFor ShlSat amount = pos 0 ≤ℤ amount
+IsAmountFor _ amount = Unit {0}
+
+-- What an operator of one number asks of its type, the result's type and the number. `~` and the reversals are for sized types, and
+-- `@byteSwap` for whole bytes.
+abbrev pub IsOperandOf : Unary → IntTy → IntTy → ℤ → Type 0
+IsOperandOf Neg own ty z = IsIn ty z
+IsOperandOf NegWrap own ty z = IsIn ty z
+IsOperandOf BitNot own ty z = IsSized ty × IsIn ty z
+IsOperandOf ByteSwap own ty z = (own ≡ ty) × IsSized ty × (width ty % 8 ≡ 0) × IsIn ty z
+IsOperandOf BitReverse own ty z = (own ≡ ty) × IsSized ty × IsIn ty z
+IsOperandOf Abs own ty z = Unit {0}
 
 -- ---- a row for each operator
 

@@ -2,7 +2,7 @@ use Rattle.std.proofs.Common.{◌*ℤ◌, ℤ, FitsSigned, subst, sym}
 use Rattle.std.specs.Int.{w128}
 use Rattle.zw_num.proofs.ExactLemmas.{exact_far}
 use Rattle.zw_num.proofs.WrappedLemmas.{product_kept}
-use Rattle.zw_num.proofs.arithmetic.mul.Goals as goal
+use Rattle.zw_num.proofs.exact.mul.Goals as goal
 
 pub returns-in-None : goal.returns-in-None
 returns-in-None c =

@@ -3,7 +3,7 @@ use Rattle.std.specs.Int.{w128, cast_unsigned}
 use Rattle.zw_num.specs.Arithmetic.{truncated, rest_of}
 use Rattle.zw_num.proofs.DivisionLemmas.{rest_is, divided_is, rem_read_back}
 use Rattle.zw_num.proofs.WrappedLemmas.{read_back}
-use Rattle.zw_num.proofs.division.rem.Goals as goal
+use Rattle.zw_num.proofs.rounding.rem.Goals as goal
 
 pub returns-clause-value : goal.returns-clause-value
 returns-clause-value c =

@@ -3,7 +3,7 @@ use Rattle.std.specs.Int.{w128, cast_unsigned}
 use Rattle.zw_num.specs.Arithmetic.{IsIn, floored, rest_of}
 use Rattle.zw_num.proofs.DivisionLemmas.{is_across, rest_less, rest_same, rem_in, modulo_in, divided_is, rem_read_back, across_read_back, sum_read_back}
 use Rattle.zw_num.proofs.WrappedLemmas.{read_back}
-use Rattle.zw_num.proofs.division.modulo.Goals as goal
+use Rattle.zw_num.proofs.rounding.modulo.Goals as goal
 
 pub returns-then-is_across-clause-value : goal.returns-then-is_across-clause-value
 returns-then-is_across-clause-value c =

@@ -3,7 +3,7 @@ use Rattle.std.specs.Int.{w128, cast_signed, cast_unsigned}
 use Rattle.zw_num.specs.Arithmetic.{floored}
 use Rattle.zw_num.proofs.DivisionLemmas.{is_across, floored_less, floored_same, floored_fits, rem_read_back, across_read_back, div_read_back, not_zero}
 use Rattle.zw_num.proofs.WrappedLemmas.{read_back}
-use Rattle.zw_num.proofs.division.floor_of.Goals as goal
+use Rattle.zw_num.proofs.rounding.floor_of.Goals as goal
 
 pub returns-then-is_across : goal.returns-then-is_across
 returns-then-is_across c =

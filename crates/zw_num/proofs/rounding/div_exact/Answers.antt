@@ -5,7 +5,7 @@ use Rattle.zw_num.specs.Arithmetic.{is_in, truncated, exact_quotient}
 use Rattle.zw_num.proofs.ExactLemmas.{outside}
 use Rattle.zw_num.proofs.DivisionLemmas.{whole, broken, too_large, divided_is, rem_read_back, div_read_back}
 use Rattle.zw_num.proofs.WrappedLemmas.{read_back}
-use Rattle.zw_num.proofs.division.div_exact.Goals as goal
+use Rattle.zw_num.proofs.rounding.div_exact.Goals as goal
 
 pub returns-then-wrapping_rem-eq0 : goal.returns-then-wrapping_rem-eq0
 returns-then-wrapping_rem-eq0 c =
