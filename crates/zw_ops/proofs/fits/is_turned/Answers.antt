@@ -1,4 +1,4 @@
-use Rattle.zw_ops.proofs.ready.is_turned.Goals as goal
+use Rattle.zw_ops.proofs.fits.is_turned.Goals as goal
 
 pub returns-then-are_same : goal.returns-then-are_same
 returns-then-are_same c is types z e =

@@ -1,4 +1,4 @@
-use Rattle.zw_ops.proofs.ready.is_swapped.Goals as goal
+use Rattle.zw_ops.proofs.fits.is_swapped.Goals as goal
 
 pub returns-then-has_whole_bytes : goal.returns-then-has_whole_bytes
 returns-then-has_whole_bytes c is types z e =
