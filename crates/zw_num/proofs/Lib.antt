@@ -5,6 +5,7 @@ pub mod CountLaws
 pub mod CountLemmas
 pub mod DivisionLemmas
 pub mod ExactLemmas
+pub mod FaultLemmas
 pub mod ReversalLaws
 pub mod ReversalLemmas
 pub mod ShiftLemmas

@@ -3,6 +3,13 @@ ghost use Rattle.std.specs.Prelude.{◌≡◌, ◌≢◌, ◌↔◌, ℕ, ◌+�
 ghost use Rattle.std.specs.Int.Count.{count_leading_zeros, count_trailing_zeros};
 ghost use Rattle.zw_num.specs.declared.int_ty.IntTy.{IntTy};
 ghost use Rattle.zw_num.specs.declared.int_ty.IntTy.TheVariants.{Sized};
+ghost use Rattle.zw_num.specs.declared.operator.Arithmetic.{Arithmetic};
+ghost use Rattle.zw_num.specs.declared.operator.Division.{Division};
+ghost use Rattle.zw_num.specs.declared.operator.Shift.{Shift};
+ghost use Rattle.zw_num.specs.declared.operator.Unary.{Unary};
+ghost use Rattle.zw_num.specs.declared.operator.Cast.{Cast};
+ghost use Rattle.zw_num.specs.declared.operator.Operator.TheVariants as family;
+ghost use Rattle.zw_num.specs.Meanings.{arithmetic, division, shift, unary, converted, faults_in, FaultsAmong};
 ghost use Rattle.zw_num.specs.Arithmetic.{IsType, IsIn, IsExact, IsCongruent, IsTruncated, IsFloored, HasLeadingZeros, HasTrailingZeros, least, greatest, exact, wrapped, saturated, truncated, floored, rest_of, bit_of, bits_and, bits_or, bits_xor, bits_not, pattern, reversed, digit, ones_of, sum_in, difference_in, add_wrap_unsigned};
 
 /// A signed type of n + 1 bits has the values from -2^n to 2^n - 1, an unsigned type of n bits those from 0 to 2^n - 1, and a
@@ -101,4 +108,13 @@ pub fn unsigned_arithmetic()
         (λ n. (pos a -ℤ pos b ≡ pos n) × IsIn (Sized false bits) (pos a -ℤ pos b)) }
     ensures wrapping { (bits a b : ℕ) →
         wrapped (Sized false bits) (pos a +ℤ pos b) ≡ pos (add_wrap_unsigned bits a b) }
+{}
+
+/// An operator's meaning faults with nothing that its row doesn't name.
+pub fn faults_are_told()
+    ensures arithmetic { (op : Arithmetic) (ty : IntTy) (a b : ℤ) → FaultsAmong (faults_in ty (family.Arithmetic op)) (arithmetic op ty a b) }
+    ensures division { (op : Division) (ty : IntTy) (a b : ℤ) → FaultsAmong (faults_in ty (family.Division op)) (division op ty a b) }
+    ensures shifting { (op : Shift) (ty : IntTy) (a b : ℤ) → FaultsAmong (faults_in ty (family.Shift op)) (shift op ty a b) }
+    ensures unary { (op : Unary) (own ty : IntTy) (a : ℤ) → FaultsAmong (faults_in ty (family.Unary op)) (unary op own ty a) }
+    ensures casts { (op : Cast) (ty : IntTy) (a : ℤ) → FaultsAmong (faults_in ty (family.Cast op)) (converted op ty a) }
 {}

@@ -2,10 +2,12 @@
 use Rattle.std.proofs.Common.{◌≡◌, ℕ, ℤ, ◌+◌, ◌<◌, ◌≤◌, length, List, map, drop, slice_index_or, Some, None, sym, ◌∙◌, ap, suc, add-one}
 use Rattle.std.proofs.Math.Seq.{drop-cons}
 use Rattle.std.proofs.lemmas.List.{drop_all}
+use Rattle.zw_num.specs.declared.operator.Extreme.{Extreme}
+use Rattle.zw_num.specs.Meanings.{extreme}
 use Rattle.zw_types.specs.declared.value.Value.{Value}
 use Rattle.zw_types.specs.TypeTrees.{TypeTree, NumberValue}
 use Rattle.zw_types.specs.Readings.{value_tree}
-use Rattle.zw_values.specs.Operations.{Gives, IsWild, Extreme, extreme, number_in, on_number, extreme_from}
+use Rattle.zw_values.specs.Applied.{Gives, IsWild, number_in, on_number, extreme_from}
 
 module _ (op : Extreme) (types : List TypeTree) (xs : List Value) (i : ℕ) (a : ℤ) (x : Value) (within : i < length xs) (item : x ≡ slice_index_or xs i x) where
   left : extreme_from op a (map (value_tree types) (drop i xs)) ≡ on_number (number_in (value_tree types x)) (λ b. extreme_from op (extreme op a b) (map (value_tree types) (drop (i + 1) xs)))

@@ -1,3 +1,3 @@
-pub mod Meanings
+pub mod Answers
 pub mod Operands
 pub mod Applied

@@ -1,7 +1,7 @@
 // Why an operation gives no value.
 ghost use Rattle.std.specs.Prelude.{◌≡◌, Some};
-ghost use Rattle.zw_values.specs.Operations.{outcome_of_fault};
-ghost use Rattle.zw_ops.specs.Meanings.{outcome_of_cause};
+ghost use Rattle.zw_values.specs.Applied.{outcome_of_fault};
+ghost use Rattle.zw_ops.specs.Answers.{outcome_of_cause};
 
 use zw_base::Oom;
 use zw_num::{IntTy, NumFault};

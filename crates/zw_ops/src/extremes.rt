@@ -2,17 +2,17 @@
 ghost use Rattle.std.specs.Prelude.{◌≡◌, List, Some, map};
 ghost use Rattle.zw_types.specs.TypeTrees.{TypeTree};
 ghost use Rattle.zw_types.specs.Readings.{value_tree};
-ghost use Rattle.zw_values.specs.Operations as operation;
-ghost use Rattle.zw_ops.specs.Meanings.{extreme_of, outcome_of_result};
+ghost use Rattle.zw_values.specs.Applied as operation;
+ghost use Rattle.zw_ops.specs.Answers.{outcome_of_result};
 
 use crate::cause::Cause;
-use crate::operators::Extreme;
+use zw_num::{Extreme, extreme};
 use zw_types::Value;
 
 /// The least or the greatest of one integer or more.
-pub(crate) fn extreme(op: Extreme, args: &[Value]) -> Result<Value, Cause>
+pub(crate) fn extreme_of(op: Extreme, args: &[Value]) -> Result<Value, Cause>
     ensures { (types : List TypeTree) → outcome_of_result types result ≡
-        Some (operation.extreme_of (extreme_of op) (map (value_tree types) args.now)) }
+        Some (operation.extreme_of op (map (value_tree types) args.now)) }
 {
     let Some((first, rest)) = args.split_first() else {
         return Err(Cause::Wild);
@@ -26,14 +26,14 @@ pub(crate) fn extreme(op: Extreme, args: &[Value]) -> Result<Value, Cause>
 /// The least or the greatest of a number and of the integers behind it.
 fn extreme_from(op: Extreme, first: i128, rest: &[Value]) -> Result<Value, Cause>
     ensures { (types : List TypeTree) → outcome_of_result types result ≡
-        Some (operation.extreme_from (extreme_of op) first (map (value_tree types) rest.now)) }
+        Some (operation.extreme_from op first (map (value_tree types) rest.now)) }
 {
     let mut chosen = first;
     for value in rest {
         let Some(number) = number(value) else {
             return Err(Cause::Wild);
         };
-        chosen = further(op, chosen, number);
+        chosen = extreme(op, chosen, number);
     }
     Ok(Value::Number(chosen))
 }
@@ -45,15 +45,5 @@ fn number(value: &Value) -> Option<i128>
     match value {
         Value::Number(number) => Some(*number),
         _ => None,
-    }
-}
-
-/// Of two numbers the lesser or the greater.
-fn further(op: Extreme, a: i128, b: i128) -> i128
-    ensures { result ≡ operation.extreme (extreme_of op) a b }
-{
-    match op {
-        Extreme::Least => a.min(b),
-        Extreme::Greatest => a.max(b),
     }
 }

@@ -3,15 +3,12 @@
 
 mod application;
 mod cause;
-mod dispatch;
 mod extremes;
-mod integers;
+mod fits;
 mod measures;
 mod operands;
-mod operators;
 mod plain;
 mod ready;
-mod single;
 mod truths;
 mod typed;
 mod values;

@@ -2,13 +2,13 @@
 ghost use Rattle.std.specs.Prelude.{◌≡◌, length, List, Some};
 ghost use Rattle.zw_types.specs.TypeTrees.{TypeTree};
 ghost use Rattle.zw_types.specs.Readings.{value_tree};
-ghost use Rattle.zw_values.specs.Operations as operation;
-ghost use Rattle.zw_ops.specs.Meanings.{comparison_of, logic_of, outcome_of_result, IfAnswered};
+ghost use Rattle.zw_values.specs.Applied as operation;
+ghost use Rattle.zw_ops.specs.Answers.{outcome_of_result, IfAnswered};
 ghost use Rattle.zw_ops.specs.Applied.{IsHeld};
 
 use crate::cause::Cause;
-use crate::operators::{Comparison, Logic};
 use std::alloc::Global;
+use zw_num::{Comparison, compared};
 use zw_types::{Types, Value};
 use zw_values::is_same;
 
@@ -17,10 +17,10 @@ pub(crate) fn compare(types: &Types, op: Comparison, a: &Value, b: &Value) -> Re
     requires a_held { IsHeld (length types.now.trees) a.now }
     requires b_held { IsHeld (length types.now.trees) b.now }
     ensures { outcome_of_result types.now.trees result ≡
-        Some (operation.compared_values (comparison_of op) (value_tree types.now.trees a.now) (value_tree types.now.trees b.now)) }
+        Some (operation.compared_values op (value_tree types.now.trees a.now) (value_tree types.now.trees b.now)) }
 {
     match (a, b) {
-        (Value::Number(a), Value::Number(b)) => Ok(Value::Truth(is_related(op, *a, *b))),
+        (Value::Number(a), Value::Number(b)) => Ok(Value::Truth(compared(op, *a, *b))),
         (Value::Truth(a), Value::Truth(b)) => equality(op, *a == *b),
         (Value::OfType(a), Value::OfType(b)) => equality(op, is_same(types, *a, *b)),
         _ => Err(Cause::Wild),
@@ -29,26 +29,15 @@ pub(crate) fn compare(types: &Types, op: Comparison, a: &Value, b: &Value) -> Re
 
 /// What `==` and `!=` say of two things that are the same or not; the other comparisons don't hold for them.
 fn equality(op: Comparison, is_same: bool) -> Result<Value, Cause>
-    ensures { (types : List TypeTree) → outcome_of_result types result ≡ Some (operation.equality (comparison_of op) is_same) }
+    ensures { (types : List TypeTree) → outcome_of_result types result ≡ Some (operation.equality op is_same) }
 {
     match op {
         Comparison::Equal => Ok(Value::Truth(is_same)),
         Comparison::NotEqual => Ok(Value::Truth(!is_same)),
-        _ => Err(Cause::Wild),
-    }
-}
-
-/// Whether two numbers are in this order.
-fn is_related(op: Comparison, a: i128, b: i128) -> bool
-    ensures { result ≡ operation.compared (comparison_of op) a b }
-{
-    match op {
-        Comparison::Equal => a == b,
-        Comparison::NotEqual => a != b,
-        Comparison::Less => a < b,
-        Comparison::LessOrEqual => a <= b,
-        Comparison::Greater => a > b,
-        Comparison::GreaterOrEqual => a >= b,
+        Comparison::Less
+        | Comparison::LessOrEqual
+        | Comparison::Greater
+        | Comparison::GreaterOrEqual => Err(Cause::Wild),
     }
 }
 
@@ -73,15 +62,24 @@ pub(crate) fn truth_number(a: &Value) -> Result<Value, Cause>
     }
 }
 
-/// `and` and `or`: the second operand is the result where the first one doesn't tell alone.
-pub(crate) fn logic(alloc: Global, op: Logic, a: &Value, b: &Value) -> Result<Value, Cause>
-    ensures { (types : List TypeTree) →
-        IfAnswered types result (λ outcome. outcome ≡ operation.joined (logic_of op) (value_tree types a.now) (value_tree types b.now)) }
+/// `and`: the second operand is the result where the first one holds.
+pub(crate) fn both(alloc: Global, a: &Value, b: &Value) -> Result<Value, Cause>
+    ensures { (types : List TypeTree) → IfAnswered types result (λ outcome. outcome ≡ operation.both (value_tree types a.now) (value_tree types b.now)) }
 {
-    match (op, a) {
-        (Logic::And, Value::Truth(true)) | (Logic::Or, Value::Truth(false)) => Ok(b.copy(alloc)?),
-        (Logic::And, Value::Truth(false)) => Ok(Value::Truth(false)),
-        (Logic::Or, Value::Truth(true)) => Ok(Value::Truth(true)),
+    match a {
+        Value::Truth(true) => Ok(b.copy(alloc)?),
+        Value::Truth(false) => Ok(Value::Truth(false)),
+        _ => Err(Cause::Wild),
+    }
+}
+
+/// `or`: the second operand is the result where the first one doesn't hold.
+pub(crate) fn either(alloc: Global, a: &Value, b: &Value) -> Result<Value, Cause>
+    ensures { (types : List TypeTree) → IfAnswered types result (λ outcome. outcome ≡ operation.either (value_tree types a.now) (value_tree types b.now)) }
+{
+    match a {
+        Value::Truth(false) => Ok(b.copy(alloc)?),
+        Value::Truth(true) => Ok(Value::Truth(true)),
         _ => Err(Cause::Wild),
     }
 }

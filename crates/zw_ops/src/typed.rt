@@ -1,32 +1,36 @@
 // Operators on integers of the types that a table has.
 ghost use Rattle.std.specs.Prelude.{◌≡◌, ◌<◌, length, All, Some, [], map, MatchOption};
+ghost use Rattle.zw_num.specs.declared.operator.Operator.TheVariants as family;
 ghost use Rattle.zw_num.specs.Arithmetic.{IsType};
+ghost use Rattle.zw_num.specs.Meanings as meaning;
 ghost use Rattle.zw_types.specs.TypeTrees.{VoidType};
 ghost use Rattle.zw_types.specs.Readings.{type_at, value_tree};
-ghost use Rattle.zw_values.specs.Operations.{given};
-ghost use Rattle.zw_values.specs.Operations as operation;
-ghost use Rattle.zw_ops.specs.Meanings.{binary_of, shift_of, unary_of, count_of, outcome_of_result};
+ghost use Rattle.zw_values.specs.Applied as operation;
+ghost use Rattle.zw_values.specs.Applied.{applied};
+ghost use Rattle.zw_ops.specs.Answers.{outcome_of_result};
 ghost use Rattle.zw_ops.specs.Operands.{IsReady};
 
 use crate::cause::Cause;
 use crate::operands::{one, two};
-use crate::operators::{Binary, Count, Shift, Unary};
-use crate::values::{binary, count_bits, shift, unary};
-use zw_num::IntTy;
+use crate::values::{
+    arithmetic_value, bitwise_value, cast_value, count_value, division_value, shift_value,
+    unary_value,
+};
+use zw_num::{Arithmetic, Bitwise, Cast, Count, Division, IntTy, Shift, Unary};
 use zw_types::{TypeId, Types, Value};
 use zw_values::integer_type;
 
-/// An operator on two integers of the result's type.
-pub(crate) fn two_integers(
+/// `+`, `-` and `*` of two integers of the result's type.
+pub(crate) fn arithmetic_of(
     types: &Types,
-    op: Binary,
+    op: Arithmetic,
     args: &[Value],
     to: TypeId,
 ) -> Result<Value, Cause>
     requires to_held { to.0 < length types.now.trees }
-    requires ready { IsReady (operation.OnTwo (binary_of op)) [] (type_at types.now.trees to) (map (value_tree types.now.trees) args.now) }
+    requires ready { IsReady (family.Arithmetic op) [] (type_at types.now.trees to) (map (value_tree types.now.trees) args.now) }
     ensures { outcome_of_result types.now.trees result ≡
-        Some (given (operation.OnTwo (binary_of op)) [] (type_at types.now.trees to) (map (value_tree types.now.trees) args.now)) }
+        Some (applied (family.Arithmetic op) [] (type_at types.now.trees to) (map (value_tree types.now.trees) args.now)) }
 {
     let Some(ty) = integer_type(types, to) else {
         return Err(Cause::Wild);
@@ -34,15 +38,57 @@ pub(crate) fn two_integers(
     let Some((a, b)) = two(args) else {
         return Err(Cause::Wild);
     };
-    binary(op, ty, a, b)
+    arithmetic_value(op, ty, a, b)
+}
+
+/// A quotient or remainder of two integers of the result's type.
+pub(crate) fn division_of(
+    types: &Types,
+    op: Division,
+    args: &[Value],
+    to: TypeId,
+) -> Result<Value, Cause>
+    requires to_held { to.0 < length types.now.trees }
+    requires ready { IsReady (family.Division op) [] (type_at types.now.trees to) (map (value_tree types.now.trees) args.now) }
+    ensures { outcome_of_result types.now.trees result ≡
+        Some (applied (family.Division op) [] (type_at types.now.trees to) (map (value_tree types.now.trees) args.now)) }
+{
+    let Some(ty) = integer_type(types, to) else {
+        return Err(Cause::Wild);
+    };
+    let Some((a, b)) = two(args) else {
+        return Err(Cause::Wild);
+    };
+    division_value(op, ty, a, b)
+}
+
+/// `&`, `|` and `^` of two integers of the result's type.
+pub(crate) fn bitwise_of(
+    types: &Types,
+    op: Bitwise,
+    args: &[Value],
+    to: TypeId,
+) -> Result<Value, Cause>
+    requires to_held { to.0 < length types.now.trees }
+    requires ready { IsReady (family.Bitwise op) [] (type_at types.now.trees to) (map (value_tree types.now.trees) args.now) }
+    ensures { outcome_of_result types.now.trees result ≡
+        Some (applied (family.Bitwise op) [] (type_at types.now.trees to) (map (value_tree types.now.trees) args.now)) }
+{
+    let Some(ty) = integer_type(types, to) else {
+        return Err(Cause::Wild);
+    };
+    let Some((a, b)) = two(args) else {
+        return Err(Cause::Wild);
+    };
+    bitwise_value(op, ty, a, b)
 }
 
 /// A shift of an integer of the result's type.
-pub(crate) fn shifted(types: &Types, op: Shift, args: &[Value], to: TypeId) -> Result<Value, Cause>
+pub(crate) fn shift_of(types: &Types, op: Shift, args: &[Value], to: TypeId) -> Result<Value, Cause>
     requires to_held { to.0 < length types.now.trees }
-    requires ready { IsReady (operation.OnShifted (shift_of op)) [] (type_at types.now.trees to) (map (value_tree types.now.trees) args.now) }
+    requires ready { IsReady (family.Shift op) [] (type_at types.now.trees to) (map (value_tree types.now.trees) args.now) }
     ensures { outcome_of_result types.now.trees result ≡
-        Some (given (operation.OnShifted (shift_of op)) [] (type_at types.now.trees to) (map (value_tree types.now.trees) args.now)) }
+        Some (applied (family.Shift op) [] (type_at types.now.trees to) (map (value_tree types.now.trees) args.now)) }
 {
     let Some(ty) = integer_type(types, to) else {
         return Err(Cause::Wild);
@@ -50,11 +96,11 @@ pub(crate) fn shifted(types: &Types, op: Shift, args: &[Value], to: TypeId) -> R
     let Some((a, b)) = two(args) else {
         return Err(Cause::Wild);
     };
-    shift(op, ty, a, b)
+    shift_value(op, ty, a, b)
 }
 
-/// An operator or cast of one integer.
-pub(crate) fn one_integer(
+/// An operator of one integer.
+pub(crate) fn unary_of(
     types: &Types,
     op: Unary,
     from: &[TypeId],
@@ -63,9 +109,9 @@ pub(crate) fn one_integer(
 ) -> Result<Value, Cause>
     requires from_held { All (λ id. id.0 < length types.now.trees) from.now }
     requires to_held { to.0 < length types.now.trees }
-    requires ready { IsReady (operation.OnOne (unary_of op)) (map (type_at types.now.trees) from.now) (type_at types.now.trees to) (map (value_tree types.now.trees) args.now) }
+    requires ready { IsReady (family.Unary op) (map (type_at types.now.trees) from.now) (type_at types.now.trees to) (map (value_tree types.now.trees) args.now) }
     ensures { outcome_of_result types.now.trees result ≡
-        Some (given (operation.OnOne (unary_of op)) (map (type_at types.now.trees) from.now) (type_at types.now.trees to) (map (value_tree types.now.trees) args.now)) }
+        Some (applied (family.Unary op) (map (type_at types.now.trees) from.now) (type_at types.now.trees to) (map (value_tree types.now.trees) args.now)) }
 {
     let Some(own) = first_integers(types, from) else {
         return Err(Cause::Wild);
@@ -76,20 +122,45 @@ pub(crate) fn one_integer(
     let Some(a) = one(args) else {
         return Err(Cause::Wild);
     };
-    unary(op, own, ty, a)
+    unary_value(op, own, ty, a)
+}
+
+/// A cast of one integer.
+pub(crate) fn cast_of(
+    types: &Types,
+    op: Cast,
+    from: &[TypeId],
+    args: &[Value],
+    to: TypeId,
+) -> Result<Value, Cause>
+    requires from_held { All (λ id. id.0 < length types.now.trees) from.now }
+    requires to_held { to.0 < length types.now.trees }
+    ensures { outcome_of_result types.now.trees result ≡
+        Some (operation.on_integer (λ own. meaning.converted op) (map (type_at types.now.trees) from.now) (type_at types.now.trees to) (map (value_tree types.now.trees) args.now)) }
+{
+    if first_integers(types, from).is_none() {
+        return Err(Cause::Wild);
+    }
+    let Some(ty) = integer_type(types, to) else {
+        return Err(Cause::Wild);
+    };
+    let Some(a) = one(args) else {
+        return Err(Cause::Wild);
+    };
+    cast_value(op, ty, a)
 }
 
 /// A count of the bits of one integer.
-pub(crate) fn counted(
+pub(crate) fn count_of(
     types: &Types,
     op: Count,
     from: &[TypeId],
     args: &[Value],
 ) -> Result<Value, Cause>
     requires from_held { All (λ id. id.0 < length types.now.trees) from.now }
-    requires ready { IsReady (operation.OnBits (count_of op)) (map (type_at types.now.trees) from.now) VoidType (map (value_tree types.now.trees) args.now) }
+    requires ready { IsReady (family.Count op) (map (type_at types.now.trees) from.now) VoidType (map (value_tree types.now.trees) args.now) }
     ensures { outcome_of_result types.now.trees result ≡
-        Some (given (operation.OnBits (count_of op)) (map (type_at types.now.trees) from.now) VoidType (map (value_tree types.now.trees) args.now)) }
+        Some (applied (family.Count op) (map (type_at types.now.trees) from.now) VoidType (map (value_tree types.now.trees) args.now)) }
 {
     let Some(own) = first_integers(types, from) else {
         return Err(Cause::Wild);
@@ -97,7 +168,7 @@ pub(crate) fn counted(
     let Some(a) = one(args) else {
         return Err(Cause::Wild);
     };
-    count_bits(op, own, a)
+    count_value(op, own, a)
 }
 
 /// The integers of the first of these types.

@@ -3,6 +3,7 @@ pub mod ObjectStore
 pub mod Wild
 pub mod Sameness
 pub mod Coercions
+pub mod Applied
 pub mod Operations
 pub mod WorkedOperations
 pub mod WorkedStores

@@ -4,42 +4,20 @@
 -- `given` is the whole of it: an operation, the types of its operands, the type of its result, and the values of the operands. Operands
 -- were checked before: on others it says `IsWild`, which means nothing there. `operation_of` says which operation a number names.
 -- `@sizeOf` and `@alignOf` aren't here, since they ask a table of types.
-use Rattle.std.specs.Prelude.{ℕ, ◌/◌, ℤ, pos, neg_ℤ, ◌+ℤ◌, ◌-ℤ◌, ◌*ℤ◌, Bool, true, false, not, nat_eq, int_le, int_lt, unsigned_abs, count_ones, if◌then◌else◌, List, [], ◌∷◌, Option, Some, None, Result, Ok, Err}
+use Rattle.std.specs.Prelude.{ℕ, ◌/◌, ℤ, pos, neg_ℤ, ◌+ℤ◌, ◌-ℤ◌, ◌*ℤ◌, Bool, true, false, not, nat_eq, int_le, int_lt, unsigned_abs, count_ones, if◌then◌else◌, List, [], ◌∷◌, Option, Some, None, Result, Ok}
 use Rattle.std.specs.Ordering.{int_eq}
 use Rattle.std.specs.Int.{int_min, int_max}
 use Rattle.std.specs.Int.Count.{count_leading_zeros, count_trailing_zeros}
 use Rattle.zw_num.specs.declared.int_ty.IntTy.{IntTy}
 use Rattle.zw_num.specs.declared.int_ty.IntTy.TheVariants.{Sized, Comptime}
 use Rattle.zw_num.specs.declared.num_fault.NumFault.{NumFault}
-use Rattle.zw_num.specs.declared.num_fault.NumFault.TheVariants as fault
 use Rattle.zw_num.specs.Arithmetic.{exact, wrapped, saturated, cast_to, truncated, floored, rest_of, divided, exact_quotient, power, shifted, kept, none_lost, none_dropped, bits_and, bits_or, bits_xor, bits_not, pattern, reversed, width}
 use Rattle.zw_num.specs.declared.op.TheConstants as number
 use Rattle.zw_types.specs.TypeTrees as tree
 use Rattle.zw_types.specs.TypeTrees.{TypeTree, ValueTree}
 use Rattle.zw_values.specs.Sameness.{is_same}
 use Rattle.zw_values.specs.Coercions.{integer_of}
-
--- what an operation comes to: a value, a panic with its cause, unchecked illegal behaviour, or a limit that is passed
-pub data Outcome : Type 0 where
-  Gives : ValueTree → Outcome
-  Panics : ℕ → Outcome
-  IsWild : Outcome
-  Passes : ℕ → Outcome
-
--- what a fault of exact arithmetic comes to in a result type: on `comptime_int` an overflow passes limit 9
-abbrev pub outcome_of_fault : IntTy → NumFault → Outcome
-outcome_of_fault Comptime fault.Overflow = Passes 9
-outcome_of_fault (Sized signed bits) fault.Overflow = Panics 1
-outcome_of_fault ty fault.DivZero = Panics 7
-outcome_of_fault ty fault.Remainder = Panics 8
-outcome_of_fault ty fault.ShiftAmount = Panics 9
-outcome_of_fault ty fault.ShiftBits = Panics 10
-outcome_of_fault ty fault.Truncated = Panics 11
-outcome_of_fault ty fault.Negative = Panics 12
-
-abbrev pub outcome_of : IntTy → Result ℤ NumFault → Outcome
-outcome_of ty (Ok z) = Gives (tree.NumberValue z)
-outcome_of ty (Err e) = outcome_of_fault ty e
+pub use Rattle.zw_values.specs.Applied.{Outcome, Gives, Panics, IsWild, Passes, outcome_of_fault, outcome_of}
 
 -- ---- operators on two integers, in the result type
 

@@ -1,8 +1,0 @@
-use Rattle.zw_ops.specs.Meanings.{unary_of}
-use Rattle.zw_ops.specs.Operands.{IfNumber, IsUnaryOperand}
-use Rattle.zw_ops.proofs.ReadyLemmas.{all_one}
-use Rattle.zw_ops.proofs.ready.are_unary_operands.Goals as goal
-
-pub returns-in-Some : goal.returns-in-Some
-returns-in-Some c is types =
-    all_one (IfNumber (IsUnaryOperand (unary_of c.args.op) c.args.own c.args.ty)) types c.args.args.now c.in-Some.a.now c.in-Some.ensures (c.is_unary_operand.ensures is types)
