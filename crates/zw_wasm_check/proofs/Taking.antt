@@ -1,9 +1,10 @@
 -- What is taken of the operands, one after another.
-use Rattle.std.proofs.Common.{◌≡◌, ℕ, ◌+◌, ◌-◌, ◌<◌, ◌≤◌, Bool, List, [], ◌∷◌, ◌++◌, length, take, drop, get_or, Option, Some, None, refl, sym, ap, ◌∙◌, arith}
+use Rattle.std.proofs.Common.{◌≡◌, ℕ, zero, suc, ◌+◌, ◌-◌, ◌<◌, ◌≤◌, Bool, true, false, if◌then◌else◌, List, [], ◌∷◌, ◌++◌, length, take, drop, get_or, Option, Some, None, refl, sym, subst, ap, ◌∙◌, arith}
 use Rattle.std.proofs.lemmas.List.{drop_more, take-append-drop}
 use Rattle.zw_wasm.specs.declared.module.ValType.{ValType}
 use Rattle.zw_wasm.specs.declared.module.ValType.TheVariants.{I32}
 use Rattle.zw_wasm.specs.Typing.{Operand, Checked, taken, and_taken, all_taken, with_operands}
+use Rattle.zw_wasm_check.specs.Operands.{operands_of}
 
 and_taken-some : (o : Option (List Operand)) → and_taken o (λ rest. Some rest) ≡ o
 and_taken-some None = refl
@@ -36,6 +37,27 @@ taken_fails ts p os u none =
     ap (λ l. all_taken l os u) (sym (take-append-drop p ts))
     ∙ all_taken-append (take p ts) (drop p ts) os u
     ∙ ap (λ o. and_taken o (λ rest. all_taken (take p ts) rest u)) none
+
+-- of no operands, code out of reach takes them all, and other code none
+all_taken-none : (t : ValType) (ts : List ValType) (u : Bool) → all_taken (t ∷ ts) [] u ≡ (if u then Some [] else None)
+all_taken-none t [] true = refl
+all_taken-none t [] false = refl
+all_taken-none t (next ∷ ts) true = ap (λ o. and_taken o (λ rest. taken t rest true)) (all_taken-none next ts true)
+all_taken-none t (next ∷ ts) false = ap (λ o. and_taken o (λ rest. taken t rest false)) (all_taken-none next ts false)
+
+some_front : (p : ℕ) (ts : List ValType) (u : Bool) → 0 < p → p ≤ length ts → all_taken (take p ts) [] u ≡ (if u then Some [] else None)
+some_front zero ts u some within = absurd (omega arith)
+some_front (suc p) [] u some within = absurd (omega arith)
+some_front (suc p) (t ∷ ts) u some within = all_taken-none t (take p ts) u
+
+-- where those of the back leave no operand, the rest is there where the code is out of reach
+pub taken_from_nowhere : (ts : List ValType) (p : ℕ) (os : List Operand) (left : List (Option ValType)) (u : Bool) → 0 < p → p ≤ length ts → left ≡ [] → all_taken (drop p ts) os u ≡ Some (operands_of left) → all_taken ts os u ≡ (if u then Some (operands_of left) else None)
+taken_from_nowhere ts p os left u some within none before =
+    subst (λ l. all_taken ts os u ≡ (if u then Some (operands_of l) else None)) (sym none)
+    (ap (λ l. all_taken l os u) (sym (take-append-drop p ts))
+    ∙ all_taken-append (take p ts) (drop p ts) os u
+    ∙ ap (λ o. and_taken o (λ rest. all_taken (take p ts) rest u)) (before ∙ ap (λ l. Some (operands_of l)) none)
+    ∙ some_front p ts u some within)
 
 with_and_taken : (o : Option (List Operand)) (f : List Operand → Option (List Operand)) (go : List Operand → Checked) → with_operands (and_taken o f) go ≡ with_operands o (λ rest. with_operands (f rest) go)
 with_and_taken None f go = refl

@@ -30,11 +30,15 @@ pub fn take(operands: &mut Items<Option<ValType>>, ty: ValType, unreachable: boo
     }
 }
 
-/// Takes operands of these types, of which the last is taken first, and tells whether they are there.
+/// Takes operands of these types, of which the last is taken first, and tells whether they are there. Where none is left, code
+/// out of reach has those that are still wanted, so that it costs no more than what stands there.
 pub fn take_all(operands: &mut Items<Option<ValType>>, types: &[ValType], unreachable: bool) -> bool
     ensures { all_taken types.now (operands_of operands.old) unreachable ≡ (if result then Some (operands_of operands.new) else None) }
 {
     for place in (0..types.len()).rev() {
+        if operands.is_empty() {
+            return unreachable;
+        }
         if !take(operands, types[place], unreachable) {
             return false;
         }
