@@ -1,3 +1,4 @@
 pub mod StayingLemmas
 pub mod CallingLemmas
 pub mod NameLemmas
+pub mod FlowGrowth

@@ -15,3 +15,4 @@ pub mod FlowRanges
 pub mod FlowMeanings
 pub mod FlowMachines
 pub mod WorkedFlow
+pub mod FlowLaws
