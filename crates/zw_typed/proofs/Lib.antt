@@ -2,3 +2,4 @@ pub mod StayingLemmas
 pub mod CallingLemmas
 pub mod NameLemmas
 pub mod FlowGrowth
+pub mod FlowStaying

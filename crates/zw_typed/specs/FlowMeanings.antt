@@ -3,9 +3,9 @@
 --
 -- It is a recursion on how many calls may be active within this one, and then on the node; a loop goes by the turns that are left. So there is no
 -- bound but those of the language: calls within calls, and turns.
-use Rattle.std.specs.Prelude.{ℕ, zero, suc, ◌+◌, pos, true, false, nat_eq, nat_le, List, [], ◌∷◌, ◌++◌, map, slice_get, length, replicate, Bool, Option, Some, None}
+use Rattle.std.specs.Prelude.{ℕ, zero, suc, ◌+◌, pos, true, false, nat_eq, nat_le, List, [], ◌∷◌, ◌++◌, slice_get, length, replicate, Bool, Option, Some, None}
 use Rattle.std.specs.List.{list_any}
-use Rattle.zw_session.specs.Sessions.{Scalar, HostEvent, Halt, Panicked, WantsReply, Running, Wild}
+use Rattle.zw_session.specs.Sessions.{Scalar, Panicked, WantsReply, Running, Wild}
 use Rattle.zw_types.specs.TypeTrees as tree
 use Rattle.zw_types.specs.TypeTrees.{TypeTree, ValueTree}
 use Rattle.zw_values.specs.ObjectStore.{Store, Place, Holds, IsUndefined, IsDead, place_of, saved}
@@ -14,10 +14,10 @@ use Rattle.zw_values.specs.Operations.{Logic, And, Or, given}
 use Rattle.zw_values.specs.Wild.{is_undefined}
 use Rattle.zw_typed.specs.Nodes.{Import}
 use Rattle.zw_typed.specs.NodeMeanings.{nothing, scalars_of, value_from}
-use Rattle.zw_typed.specs.FlowNodes.{RunPlace, Variable, Range, FlowNode, FlowNodes, node, no_nodes, node_and, Function, type_of, types_of, Form, Constant, Read, Write, Declare, Scope, Operate, Become, Decide, Choose, InOrder, Target, Leave, Repeat, Count, Call, CallHost, Return, Stop}
+use Rattle.zw_typed.specs.FlowNodes.{Variable, FlowNode, FlowNodes, node, no_nodes, node_and, Function, type_of, types_of, Form, Constant, Read, Write, Declare, Scope, Operate, Become, Decide, Choose, InOrder, Target, Leave, Repeat, Count, Call, CallHost, Return, Stop}
 use Rattle.zw_typed.specs.FlowOperators.{operation_of}
 use Rattle.zw_typed.specs.FlowCounts.{work_of, work_of_turn, work_of_call}
-use Rattle.zw_typed.specs.FlowRuns.{Run, End, Gives, Leaves, Returns, Stops, Stuck, Evaluated, gives, stops, stuck, and_then, with_visit, with_value, with_turn, object_of, declared, ended, scoped}
+use Rattle.zw_typed.specs.FlowRuns.{Run, End, Gives, Leaves, Returns, Stops, Stuck, Evaluated, gives, stops, stuck, and_then, with_visit, with_value, with_turn, object_of, declared, scoped}
 use Rattle.zw_typed.specs.FlowRanges.{Bounds, bounds_of, Turns, Due, Fails, NoEnd, turns_due}
 
 -- what calls of the program's functions do, by number, arguments and what the run has

@@ -2,16 +2,15 @@
 use Rattle.std.specs.Prelude.{◌≡◌, ℕ, pos, Bool, true, false, List, [], ◌∷◌, codes, Option, Some, None}
 use Rattle.zw_num.specs.declared.operator.Arithmetic.TheVariants as sum
 use Rattle.zw_num.specs.declared.operator.Comparison.TheVariants as order
-use Rattle.zw_num.specs.declared.operator.Operator.{Operator}
 use Rattle.zw_num.specs.declared.operator.Operator.TheVariants as family
-use Rattle.zw_session.specs.Sessions.{Number, Truth, Call, Panicked, WantsReply, Running, Trapped, Entry, Host, Result, SessionEnd, Finished, Ended, Session, session}
+use Rattle.zw_session.specs.Sessions.{Number, Call, Panicked, WantsReply, Running, Trapped, Entry, Host, Result, Finished, Ended, Session, session}
 use Rattle.zw_types.specs.TypeTrees as tree
 use Rattle.zw_types.specs.TypeTrees.{TypeTree, ValueTree}
 use Rattle.zw_typed.specs.NodeMeanings.{nothing}
-use Rattle.zw_typed.specs.FlowNodes.{Variable, Range, FlowNode, node, nodes_from, Function, Constant, Read, Write, Declare, Scope, Operate, Become, Choose, InOrder, Target, Leave, Repeat, Count, Call as Called, CallHost, Return, Stop}
+use Rattle.zw_typed.specs.FlowNodes.{Variable, Range, FlowNode, node, nodes_from, Function, Constant, Read, Write, Declare, Operate, Choose, InOrder, Target, Leave, Repeat, Count, Call as Called, CallHost, Return, Stop}
 use Rattle.zw_typed.specs.FlowCounts.{Counts}
 use Rattle.zw_typed.specs.FlowMeanings.{usize}
-use Rattle.zw_typed.specs.FlowMachines.{Named, Functions, at_first, functions_machine, session_counts}
+use Rattle.zw_typed.specs.FlowMachines.{Functions, at_first, functions_machine, session_counts}
 
 -- ---- a short way to write nodes: occurrences of the source, and helpers
 
