@@ -16,3 +16,5 @@ pub mod FlowMeanings
 pub mod FlowMachines
 pub mod WorkedFlow
 pub mod FlowLaws
+pub mod FlowTypes
+pub mod FlowPrograms
