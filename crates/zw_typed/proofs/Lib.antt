@@ -1,3 +1,5 @@
 pub mod StayingLemmas
 pub mod CallingLemmas
 pub mod NameLemmas
+pub mod FlowGrowth
+pub mod FlowStaying

@@ -10,7 +10,7 @@ use Rattle.zw_typed.specs.NodeMeanings.{scalar_of}
 use Rattle.zw_typed.specs.Exports.{are_of, values_of}
 use Rattle.zw_typed.specs.FlowNodes.{Function}
 use Rattle.zw_typed.specs.FlowCounts.{Counts, nothing_counted}
-use Rattle.zw_typed.specs.FlowRuns.{Run, End, Gives, Leaves, Returns, Stops, Stuck, Evaluated, stuck}
+use Rattle.zw_typed.specs.FlowRuns.{Run, End, Gives, Stops, Evaluated, stuck}
 use Rattle.zw_typed.specs.FlowMeanings.{entered, calls_within}
 
 -- an export: its name, and the number of its function

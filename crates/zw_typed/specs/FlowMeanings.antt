@@ -3,21 +3,21 @@
 --
 -- It is a recursion on how many calls may be active within this one, and then on the node; a loop goes by the turns that are left. So there is no
 -- bound but those of the language: calls within calls, and turns.
-use Rattle.std.specs.Prelude.{ℕ, zero, suc, ◌+◌, pos, true, false, nat_eq, nat_le, if◌then◌else◌, List, [], ◌∷◌, ◌++◌, map, slice_get, length, replicate, Bool, Option, Some, None}
+use Rattle.std.specs.Prelude.{ℕ, zero, suc, ◌+◌, pos, true, false, nat_eq, nat_le, List, [], ◌∷◌, ◌++◌, slice_get, length, replicate, Bool, Option, Some, None}
 use Rattle.std.specs.List.{list_any}
-use Rattle.zw_session.specs.Sessions.{Scalar, HostEvent, Halt, Panicked, WantsReply, Running, Wild}
+use Rattle.zw_session.specs.Sessions.{Scalar, Panicked, WantsReply, Running, Wild}
 use Rattle.zw_types.specs.TypeTrees as tree
 use Rattle.zw_types.specs.TypeTrees.{TypeTree, ValueTree}
-use Rattle.zw_values.specs.ObjectStore.{Place, Holds, IsUndefined, IsDead, place_of, saved}
+use Rattle.zw_values.specs.ObjectStore.{Store, Place, Holds, IsUndefined, IsDead, place_of, saved}
 use Rattle.zw_values.specs.Operations as operation
 use Rattle.zw_values.specs.Operations.{Logic, And, Or, given}
 use Rattle.zw_values.specs.Wild.{is_undefined}
 use Rattle.zw_typed.specs.Nodes.{Import}
 use Rattle.zw_typed.specs.NodeMeanings.{nothing, scalars_of, value_from}
-use Rattle.zw_typed.specs.FlowNodes.{RunPlace, Variable, Range, FlowNode, FlowNodes, node, no_nodes, node_and, Function, type_of, types_of, Form, Constant, Read, Write, Declare, Scope, Operate, Become, Decide, Choose, InOrder, Target, Leave, Repeat, Count, Call, CallHost, Return, Stop}
+use Rattle.zw_typed.specs.FlowNodes.{Variable, FlowNode, FlowNodes, node, no_nodes, node_and, Function, type_of, types_of, Form, Constant, Read, Write, Declare, Scope, Operate, Become, Decide, Choose, InOrder, Target, Leave, Repeat, Count, Call, CallHost, Return, Stop}
 use Rattle.zw_typed.specs.FlowOperators.{operation_of}
 use Rattle.zw_typed.specs.FlowCounts.{work_of, work_of_turn, work_of_call}
-use Rattle.zw_typed.specs.FlowRuns.{Run, End, Gives, Leaves, Returns, Stops, Stuck, Evaluated, gives, stops, stuck, and_then, with_visit, with_value, with_turn, object_of, declared, ended, scoped}
+use Rattle.zw_typed.specs.FlowRuns.{Run, End, Gives, Leaves, Returns, Stops, Stuck, Evaluated, gives, stops, stuck, and_then, with_visit, with_value, with_turn, object_of, declared, scoped}
 use Rattle.zw_typed.specs.FlowRanges.{Bounds, bounds_of, Turns, Due, Fails, NoEnd, turns_due}
 
 -- what calls of the program's functions do, by number, arguments and what the run has
@@ -43,9 +43,14 @@ abbrev pub read : TypeTree → Option ℕ → Run → Evaluated ValueTree
 read ty None run = stuck run
 read ty (Some obj) run = read_from ty (place_of run.store obj []) run
 
+-- what is written fits its object
+abbrev pub stored : TypeTree → Option Store → Run → Evaluated ValueTree
+stored ty None run = stuck run
+stored ty (Some store) run = gives nothing (with_value ty (record run { store = store }))
+
 abbrev pub written_to : Place → TypeTree → ℕ → ValueTree → Run → Evaluated ValueTree
 written_to IsDead ty obj value run = stops Wild run
-written_to _ ty obj value run = elim (saved run.store obj [] value) [ None ↦ stuck run | Some store ↦ gives nothing (with_value ty (record run { store = store })) ]
+written_to _ ty obj value run = stored ty (saved run.store obj [] value) run
 
 abbrev pub write : TypeTree → Option ℕ → ValueTree → Run → Evaluated ValueTree
 write ty None value run = stuck run
@@ -81,11 +86,15 @@ decided Or value other run = by_truth value (λ run. gives (tree.TruthValue true
 
 -- ---- targets and loops
 
+-- what leaves comes to its own target, and goes past others
+abbrev pub at_label : Bool → ℕ → TypeTree → TypeTree → ValueTree → Run → Evaluated ValueTree
+at_label true target ty to value run = arrives ty to value run
+at_label false target ty to value run = record { end = Leaves target ty value; run = run }
+
 -- what comes to a target, or goes past it
 abbrev pub at_target : ℕ → TypeTree → TypeTree → End ValueTree → Run → Evaluated ValueTree
 at_target t from to (Gives value) run = arrives from to value run
-at_target t from to (Leaves target ty value) run =
-    if nat_eq t target then arrives ty to value run else record { end = Leaves target ty value; run = run }
+at_target t from to (Leaves target ty value) run = at_label (nat_eq t target) target ty to value run
 at_target t from to (Returns ty value) run = record { end = Returns ty value; run = run }
 at_target t from to (Stops halt) run = stops halt run
 at_target t from to Stuck run = stuck run
@@ -99,15 +108,20 @@ repeated (suc left) body run =
 abbrev pub usize : TypeTree
 usize = tree.IntType false 32 true
 
--- the captures of a turn, as new constants; one past `usize` panics behind those before it
+-- a capture with a name is a new constant; one past `usize` panics
+abbrev pub capture_at : Bool → ℕ → ℕ → (Run → Evaluated (List ℕ)) → Run → Evaluated (List ℕ)
+capture_at true k n more run =
+    and_then (more (with_value usize (declared k usize (tree.NumberValue (pos n)) false run))) (λ ks after. gives (k ∷ ks) after)
+capture_at false k n more run = stops (Panicked 1 []) run
+
+abbrev pub capture_of : Option ℕ → ℕ → (Run → Evaluated (List ℕ)) → Run → Evaluated (List ℕ)
+capture_of None n more run = more run
+capture_of (Some k) n more run = capture_at (nat_le n 4294967295) k n more run
+
+-- the captures of a turn, in order
 abbrev pub captured : List Bounds → ℕ → Run → Evaluated (List ℕ)
 captured [] turn run = gives [] run
-captured (b ∷ more) turn run = elim b.capture [
-  | None ↦ captured more turn run
-  | Some k ↦ (if nat_le (b.start + turn) 4294967295
-      then and_then (captured more turn (with_value usize (declared k usize (tree.NumberValue (pos (b.start + turn))) false run))) (λ ks after. gives (k ∷ ks) after)
-      else stops (Panicked 1 []) run)
-]
+captured (b ∷ more) turn run = capture_of b.capture (b.start + turn) (λ next. captured more turn next) run
 
 -- each turn that is due, from this one on: captures, the body, and the return to the test, which is a turn
 abbrev pub counted : ℕ → List Bounds → ℕ → (Run → Evaluated ValueTree) → Run → Evaluated ValueTree
@@ -190,9 +204,14 @@ abbrev pub is_void : TypeTree → Bool
 is_void tree.VoidType = true
 is_void _ = false
 
--- a call's value is what its body returns, as one of the function's result; a body that comes to its end has returned nothing
+-- a body that comes to its end has returned nothing
+abbrev pub at_end : Bool → Run → Evaluated ValueTree
+at_end true run = gives nothing run
+at_end false run = stuck run
+
+-- a call's value is what its body returns, as one of the function's result
 abbrev pub returned : TypeTree → End ValueTree → Run → Evaluated ValueTree
-returned result (Gives value) run = if is_void result then gives nothing run else stuck run
+returned result (Gives value) run = at_end (is_void result) run
 returned result (Leaves target ty value) run = stuck run
 returned result (Returns ty value) run = arrives ty result value run
 returned result (Stops halt) run = stops halt run
@@ -211,10 +230,12 @@ entered calls f args run =
     let own : Run = record (with_visit true work_of_call run) { variables = replicate (length f.params + length f.vars) None } in
     back run.variables (and_then (bound 0 f.params args own) (λ ks after. body_done f.result (scoped ks (evaluated calls f.body after))))
 
--- Calls where so many more may be active: one more panics behind its arguments and takes no turn, and each other one takes a turn.
+-- a call of a function that is there takes a turn
+abbrev pub found_called : Calls → Option Function → List ValueTree → Run → Evaluated ValueTree
+found_called calls None args run = stuck run
+found_called calls (Some f) args run = with_turn run (λ next. entered calls f args next)
+
+-- Calls where so many more may be active: one more panics behind its arguments and takes no turn.
 abbrev pub calls_within : List Function → ℕ → Calls
 calls_within functions zero f args run = stops (Panicked 19 []) run
-calls_within functions (suc room) f args run = elim (slice_get functions f) [
-  | None ↦ stuck run
-  | Some function ↦ with_turn run (λ next. entered (calls_within functions room) function args next)
-]
+calls_within functions (suc room) f args run = found_called (calls_within functions room) (slice_get functions f) args run

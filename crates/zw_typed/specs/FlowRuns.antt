@@ -1,10 +1,10 @@
 -- What a run has while nodes are evaluated, and how evaluating ends (this project's own).
-use Rattle.std.specs.Prelude.{ℕ, zero, suc, Bool, true, List, [], ◌∷◌, ◌++◌, slice_get, slice_set, length, Option, Some, None, option_and_then}
+use Rattle.std.specs.Prelude.{ℕ, zero, suc, Bool, true, List, [], ◌∷◌, slice_get, slice_set, length, Option, Some, None, option_and_then}
 use Rattle.zw_session.specs.Sessions.{HostEvent, Halt, Running}
 use Rattle.zw_types.specs.TypeTrees.{TypeTree, ValueTree}
-use Rattle.zw_values.specs.ObjectStore.{Object, Store, at_run_time, made, killed}
+use Rattle.zw_values.specs.ObjectStore.{Store, at_run_time, made, killed}
 use Rattle.zw_typed.specs.Weights.{run_size}
-use Rattle.zw_typed.specs.FlowCounts.{Counts, visited, with_moved, work_of_turn}
+use Rattle.zw_typed.specs.FlowCounts.{Counts, visited, with_moved}
 
 -- The objects; the object of each variable of the function that is evaluated, where the variable is declared; the replies and the turns
 -- that are left; the host calls so far; and what was counted so far.

@@ -15,3 +15,6 @@ pub mod FlowRanges
 pub mod FlowMeanings
 pub mod FlowMachines
 pub mod WorkedFlow
+pub mod FlowLaws
+pub mod FlowTypes
+pub mod FlowPrograms

@@ -2,16 +2,15 @@
 use Rattle.std.specs.Prelude.{◌≡◌, ℕ, pos, Bool, true, false, List, [], ◌∷◌, codes, Option, Some, None}
 use Rattle.zw_num.specs.declared.operator.Arithmetic.TheVariants as sum
 use Rattle.zw_num.specs.declared.operator.Comparison.TheVariants as order
-use Rattle.zw_num.specs.declared.operator.Operator.{Operator}
 use Rattle.zw_num.specs.declared.operator.Operator.TheVariants as family
-use Rattle.zw_session.specs.Sessions.{Number, Truth, Call, Panicked, WantsReply, Running, Trapped, Entry, Host, Result, SessionEnd, Finished, Ended, Session, session}
+use Rattle.zw_session.specs.Sessions.{Number, Call, Panicked, WantsReply, Running, Trapped, Entry, Host, Result, Finished, Ended, Session, session}
 use Rattle.zw_types.specs.TypeTrees as tree
 use Rattle.zw_types.specs.TypeTrees.{TypeTree, ValueTree}
 use Rattle.zw_typed.specs.NodeMeanings.{nothing}
-use Rattle.zw_typed.specs.FlowNodes.{Variable, Range, FlowNode, node, nodes_from, Function, Constant, Read, Write, Declare, Scope, Operate, Become, Choose, InOrder, Target, Leave, Repeat, Count, Call as Called, CallHost, Return, Stop}
+use Rattle.zw_typed.specs.FlowNodes.{Variable, Range, FlowNode, node, nodes_from, Function, Constant, Read, Write, Declare, Operate, Choose, InOrder, Target, Leave, Repeat, Count, Call as Called, CallHost, Return, Stop}
 use Rattle.zw_typed.specs.FlowCounts.{Counts}
 use Rattle.zw_typed.specs.FlowMeanings.{usize}
-use Rattle.zw_typed.specs.FlowMachines.{Named, Functions, at_first, functions_machine, session_counts}
+use Rattle.zw_typed.specs.FlowMachines.{Functions, at_first, functions_machine, session_counts}
 
 -- ---- a short way to write nodes: occurrences of the source, and helpers
 
@@ -167,6 +166,45 @@ outer_goes_on = with_variable 0 (loop 0 1 2 (less (get 0) (number 2)) (set 0 (pl
 abbrev pub read_before : Function
 read_before = with_variable 1 (set 0 (plus (get 0) (node true u8 (Target 0 (block (set 0 (number 10) ∷ leave 0 (number 1) ∷ []))))) ∷ give (get 0) ∷ [])
 
+-- `while (c) : (step) body else e` with a value, and `for (ranges) body else e`; their targets as above
+abbrev pub loop_else : TypeTree → FlowNode → FlowNode → FlowNode → FlowNode → FlowNode
+loop_else ty c step body e = node true ty (Target 0 (node false tree.NoReturnType (Repeat (node false tree.VoidType (Choose c
+    (node false tree.VoidType (InOrder (nodes_from (node false tree.VoidType (Target 1 body) ∷ node false tree.VoidType (Target 2 step) ∷ []))))
+    (node false tree.NoReturnType (Leave 0 e)))))))
+
+abbrev pub each_else : List Range → List FlowNode → FlowNode → FlowNode → FlowNode
+each_else ranges bounds body e = node true u8 (Target 0 (node false tree.NoReturnType (InOrder (nodes_from (
+    node false tree.VoidType (Count ranges (nodes_from bounds) (node false tree.VoidType (Target 1 body))) ∷
+    node false tree.NoReturnType (Leave 0 e) ∷ [])))))
+
+-- `var x: u8 = 0; return while (x < 2) : (x += 1) body else 9;`
+abbrev pub nine_else : FlowNode → Function
+nine_else body = with_variable 0 (give (loop_else u8 (less (get 0) (number 2)) (set 0 (plus (get 0) (number 1))) body (number 9)) ∷ [])
+
+-- `var x: u8 = 0; while (x < 2) : (x += 1) {} else x = 9; return x;`
+abbrev pub set_else : Function
+set_else = with_variable 0 (loop_else tree.VoidType (less (get 0) (number 2)) (set 0 (plus (get 0) (number 1))) (block []) (set 0 (number 9)) ∷ give (get 0) ∷ [])
+
+-- `var x: u8 = 0; return for (0..2) |_| body else x;`
+abbrev pub for_else : FlowNode → Function
+for_else body = with_variable 0 (give (each_else (range None true ∷ []) (position 0 ∷ position 2 ∷ []) body (get 0)) ∷ [])
+
+-- `var x: u8 = 0; outer: while (x < 2) : (x += 1) { while (true) : ({ continue :outer; }) {} } return x;`
+abbrev pub on_from_step : Function
+on_from_step = with_variable 0 (loop 0 1 2 (less (get 0) (number 2)) (set 0 (plus (get 0) (number 1)))
+    (block (loop 3 4 5 (truth true) (block (leave 1 none ∷ [])) (block []) ∷ [])) ∷ give (get 0) ∷ [])
+
+-- `var x: u8 = 0; l: while (x < 2) : ({ x += 1; continue :l; }) {} return x;`
+abbrev pub on_in_step : Function
+on_in_step = with_variable 0 (loop 0 1 2 (less (get 0) (number 2)) (block (set 0 (plus (get 0) (number 1)) ∷ leave 2 none ∷ [])) (block []) ∷ give (get 0) ∷ [])
+
+-- the calls of `f` with these arguments, in one session
+abbrev pub told_twice : Functions → List ℕ → List ℕ → ℕ → Session
+told_twice p first second turns = session (functions_machine 2048 p) (call_f first ∷ call_f second ∷ []) at_first [] turns
+
+abbrev pub counts_twice : Functions → List ℕ → List ℕ → ℕ → Counts
+counts_twice p first second turns = session_counts 2048 p (call_f first ∷ call_f second ∷ []) at_first [] turns
+
 pub record WorkedFlow : Type 0 where
   -- three turns come to 3, with three returns to the condition; with two turns it still runs, and without any where one is due
   pub three : told 2048 (program (up_to ∷ [])) (3 ∷ []) [] 3 ≡ result 3
@@ -228,3 +266,27 @@ pub record WorkedFlow : Type 0 where
   pub calls : counts 5 (program (itself ∷ [])) [] [] 1 ≡ record { visits = 8; moved = 0; work = 140 }
   -- out of two blocks: the call and eight nodes; a byte comes to the outer block and is returned
   pub out : counts 2048 (program (out_of_two ∷ [])) [] [] 0 ≡ record { visits = 9; moved = 2; work = 88 }
+  -- `return 7;` called twice counts twice what one call does
+  pub seven_twice : counts_twice (program (function [] [] (block (give (number 7) ∷ [])) ∷ [])) [] [] 0 ≡ record { visits = 8; moved = 2; work = 112 }
+  -- three turns for the first call and two for the second: the bound is one for both
+  pub both_calls : told_twice (program (up_to ∷ [])) (3 ∷ []) (2 ∷ []) 5 ≡ record { entries = Result (Some (Number (pos 3))) ∷ Result (Some (Number (pos 2))) ∷ []; end = Finished }
+  pub second_runs : told_twice (program (up_to ∷ [])) (3 ∷ []) (2 ∷ []) 4 ≡ record { entries = Result (Some (Number (pos 3))) ∷ []; end = Ended Running }
+  -- behind a call that panics there is no other, and nothing more is counted: the call and the body's node are two visits
+  pub none_behind : told_twice (program (function [] [] (node true tree.NoReturnType (Stop 6)) ∷ [])) [] [] 9 ≡ panic 6
+  pub none_counted : counts_twice (program (function [] [] (node true tree.NoReturnType (Stop 6)) ∷ [])) [] [] 9 ≡ record { visits = 2; moved = 0; work = 48 }
+  -- the condition is false behind two turns, and the loop's value is that of its `else`
+  pub else_value : told 2048 (program (nine_else (block []) ∷ [])) [] [] 2 ≡ result 9
+  pub else_runs : told 2048 (program (nine_else (block []) ∷ [])) [] [] 1 ≡ running
+  -- a `break` with a value in the second body goes past the `else`, behind one turn
+  pub past_else : told 2048 (program (nine_else (block (when (equal (get 0) (number 1)) (leave 0 (number 5)) ∷ [])) ∷ [])) [] [] 1 ≡ result 5
+  -- an `else` without a value is evaluated for what it does
+  pub else_set : told 2048 (program (set_else ∷ [])) [] [] 2 ≡ result 9
+  -- so are those of a `for`, whose last turn is one: two for the `else`, none where the first body leaves
+  pub for_else_value : told 2048 (program (for_else one_more ∷ [])) [] [] 2 ≡ result 2
+  pub for_else_runs : told 2048 (program (for_else one_more ∷ [])) [] [] 1 ≡ running
+  pub past_for_else : told 2048 (program (for_else (block (leave 0 (number 5) ∷ [])) ∷ [])) [] [] 0 ≡ result 5
+  -- The inner loop's step goes on with the outer one, so the inner one never returns to its condition; both turns are the outer one's.
+  pub from_step : told 2048 (program (on_from_step ∷ [])) [] [] 2 ≡ result 2
+  pub from_step_runs : told 2048 (program (on_from_step ∷ [])) [] [] 1 ≡ running
+  -- a step that goes on with its own loop is done, and the condition is next
+  pub in_step : told 2048 (program (on_in_step ∷ [])) [] [] 2 ≡ result 2

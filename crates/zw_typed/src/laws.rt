@@ -3,6 +3,7 @@ ghost use Rattle.std.specs.Prelude.{◌≡◌, ℕ, List};
 ghost use Rattle.std.specs.Str.{is_utf8};
 ghost use Rattle.zw_session.specs.Bounds.{StaysEnded};
 ghost use Rattle.zw_typed.specs.Exports.{Exported, exports_machine};
+ghost use Rattle.zw_typed.specs.FlowLaws.{RunsGrow, RunsStayEnded};
 ghost use Rattle.zw_typed.specs.HostTypes.{is_utf8_name};
 ghost use Rattle.zw_typed.specs.WorkedFlow.{WorkedFlow};
 ghost use Rattle.zw_typed.specs.WorkedPrograms.{WorkedPrograms};
@@ -25,4 +26,15 @@ pub fn names_are_utf8()
 /// Sessions with statements, variables and calls, worked out by hand.
 pub fn flow_is_worked()
     ensures { WorkedFlow }
+{}
+
+/// Whatever is evaluated or called, and however it ends: turns that are left only fall, what is counted only grows, and host calls
+/// come behind the earlier ones.
+pub fn runs_grow()
+    ensures { RunsGrow }
+{}
+
+/// More turns change nothing where evaluating a node, a call or a session ended.
+pub fn runs_stay_ended()
+    ensures { RunsStayEnded }
 {}
