@@ -4,7 +4,6 @@
 
 mod encode;
 mod execution;
-mod exports;
 mod globals;
 mod laws;
 mod module;
@@ -17,7 +16,6 @@ pub use execution::{
     bodies_are_typed, calls_are_worked, code_is_structured, module_calls_stay_ended,
     modules_are_worked, numbers_are_worked, panics_are_worked, sequences_compose,
 };
-pub use exports::{exported_function, exported_global};
 pub use globals::first_globals;
 pub use laws::{no_shorter_module, sequences_close, shortest_module};
 pub use module::{

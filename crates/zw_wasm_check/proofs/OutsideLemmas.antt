@@ -124,6 +124,33 @@ module _ (m : Module) where
   no_codes_violation formed =
       ap (λ (b : Bool). cond b None (Some (Outside codes_section (min (length m.codes) (length m.funcs))))) (eq-eqb (length m.codes) (length m.funcs) (sym formed.same_count))
 
+-- what comes behind a section in which nothing is refused
+module _ (m : Module) where
+  pub past_imports : (found : Option ℕ) → found ≡ position (λ (i : FuncImport). not (ltb i.ty (length m.types))) m.imports → outside imports_section found ≡ None → Leads m (from_functions m)
+  past_imports found is none = go_on m (in_imports m) (from_functions m) (sym (imports_named m found is) ∙ none) (begin m)
+
+  pub past_functions : (found : Option ℕ) → found ≡ position (λ (ty : ℕ). not (ltb ty (length m.types))) m.funcs → outside functions_section found ≡ None → Leads m (from_functions m) → Leads m (from_tables m)
+  past_functions found is none l = go_on m (in_functions m) (from_tables m) (sym (functions_named m found is) ∙ none) l
+
+  pub past_tables : (found : Option ℕ) (tables : List Limits) → tables ≡ m.tables → found ≡ first_refused (λ k (l : Limits). nat_eq k 0 && in_limits l.least l.greatest) 0 tables → outside tables_section found ≡ None → Leads m (from_tables m) → Leads m (from_memories m)
+  past_tables found tables same is none l = go_on m (in_tables m) (from_memories m) (sym (tables_named m found tables same is) ∙ none) l
+
+  pub past_memories : (found : Option ℕ) (memories : List Limits) → memories ≡ m.memories → found ≡ first_refused (λ k (l : Limits). nat_eq k 0 && memory_ok l) 0 memories → outside memories_section found ≡ None → Leads m (from_memories m) → Leads m (from_globals m)
+  past_memories found memories same is none l = go_on m (in_memories m) (from_globals m) (sym (memories_named m found memories same is) ∙ none) l
+
+  pub past_globals : (found : Option ℕ) → found ≡ position (λ (g : GlobalDef). not (global_ok g)) m.globals → outside globals_section found ≡ None → Leads m (from_globals m) → Leads m (from_exports m)
+  past_globals found is none l = go_on m (in_globals m) (from_exports m) (sym (globals_named m found is) ∙ none) l
+
+  pub past_exports : (found : Option ℕ) → found ≡ first_refused (export_ok m) 0 m.exports → outside exports_section found ≡ None → Leads m (from_exports m) → Leads m (from_start m)
+  past_exports found is none l = go_on m (in_exports m) (from_start m) (sym (ap (outside exports_section) is) ∙ none) l
+
+  pub past_start : start_violation m m.start ≡ None → Leads m (from_start m) → Leads m (from_elements m)
+  past_start none l = go_on m (start_violation m m.start) (from_elements m) none l
+
+  pub past_elements : (found : Option ℕ) → found ≡ position (λ (e : Element). not (element_ok m e)) m.elements → outside elements_section found ≡ None → IsWellFormed m → Leads m (from_elements m) → Leads m (in_datas m)
+  past_elements found is none formed l =
+      go_on m (codes_violation m) (in_datas m) (no_codes_violation m formed) (go_on m (in_elements m) (from_codes m) (sym (elements_named m found is) ∙ none) l)
+
 -- ---- bodies
 
 -- a body in its place

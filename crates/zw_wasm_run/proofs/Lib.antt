@@ -1,4 +1,5 @@
 pub mod FlatCode
+pub mod ExportLemmas
 pub mod LabelRuns
 pub mod Steps
 pub mod EnterWords

@@ -1,4 +1,5 @@
 pub mod Bodies
+pub mod ExportNames
 pub mod Control
 pub mod Running
 pub mod Settling

@@ -17,13 +17,10 @@ use crate::function::call_function;
 use crate::held::Machine;
 use crate::replies::Replies;
 use crate::store::Store;
-use sqlite_items::Items;
+use sqlite_items::{Items, at};
 use std::alloc::{AllocError, Global};
 use std::fmt;
-use zw_wasm::{
-    ExportDef, FuncType, Limits, Module, Num, exported_function, exported_global, first_globals,
-    func_type,
-};
+use zw_wasm::{ExportDef, FuncType, Limits, Module, Num, first_globals, func_type};
 use zw_wasm_check::Checked;
 use zw_wasm_reach::deepest;
 use zw_wasm_words::{place_datas, place_elements};
@@ -112,7 +109,7 @@ impl Machine {
     pub fn export(&self, name: &[u8]) -> Option<u32>
         ensures { result ≡ export_in ExportDef.FUNC name.now self.now.code.exports }
     {
-        exported_function(self.code.module(), name)
+        self.code.export(ExportDef::FUNC, name)
     }
 
     /// The type of an exported function, by its number.
@@ -196,7 +193,11 @@ impl Machine {
     fn exported_global(&self, name: &[u8]) -> Option<u32>
         ensures { result ≡ exported_global self.now.code (store_of self.now) name.now }
     {
-        exported_global(self.code.module(), self.store.globals.as_slice(), name)
+        let index = self.code.export(ExportDef::GLOBAL, name)?;
+        match at(self.store.globals.as_slice(), index as usize) {
+            Some(Num::I32(value)) => Some(*value),
+            _ => None,
+        }
     }
 
     /// So many bytes of the memory from a place on, or none where the module has no memory or they don't all lie inside.

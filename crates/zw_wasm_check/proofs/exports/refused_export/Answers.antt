@@ -20,11 +20,15 @@ returns-then-not-branch c =
 
 pub loop-number-preserved : goal.loop-number-preserved
 loop-number-preserved c =
+    let m = c.args.m.now in
+    let number = c.loop-number.number in
+    let export = c.export-item.result in
+    let names = names_in c.loop-number.names in
+    let inside = rw c.as_slice-export-items.ensures at c.loop-number-test.true in
+    let is = rw c.as_slice-export-items.ensures at c.export-item.is in
     let new = rw (c.if-not-branch.false, c.as_slice.ensures) at c.in_ok-insert.ensures in
+    let passes = export_named m number export names false c.if-not-is_there.ensures c.loop-number.invariant.before (any-absent export.name names new.1) in
     record {
-      before = names_more c.args.m.now.exports c.loop-number.number c.export-item.result (names_in c.loop-number.names) (names_in c.insert.new.set) (rw c.as_slice-export-items.ensures at c.loop-number-test.true) (rw c.as_slice-export-items.ensures at c.export-item.is) c.loop-number.invariant.before new.0;
-      goes_on =
-          c.loop-number.invariant.goes_on
-          ∙ refused_later (export_ok c.args.m.now) c.args.m.now.exports c.loop-number.number c.export-item.result (rw c.as_slice-export-items.ensures at c.loop-number-test.true) (rw c.as_slice-export-items.ensures at c.export-item.is)
-          (export_named c.args.m.now c.loop-number.number c.export-item.result (names_in c.loop-number.names) false c.if-not-is_there.ensures c.loop-number.invariant.before (any-absent c.export-item.result.name (names_in c.loop-number.names) new.1));
+      before = names_more m.exports number export names (names_in c.insert.new.set) inside is c.loop-number.invariant.before new.0;
+      goes_on = c.loop-number.invariant.goes_on ∙ refused_later (export_ok m) m.exports number export inside is passes;
     }

@@ -19,7 +19,8 @@ ask_host-requires-clause-count c =
     ∙ sym (length-map c.args.args.now type_of) ∙ ap length c.requires.may.given_typed ∙ ap (λ o. length (param_types o)) c.requires.typed
 
 -- what the host answered, to the words and the memory
-asked : (m : Module) (shows : List Show) (func : ℕ) (t : FuncType) (memory items read words : List ℕ) (old new : HostState) (a x : Answer) → memory ≡ items → read ≡ words → a ≡ x → AsksHost m shows func t memory (numbers_held t.params read) old a new → AsksHost m shows func t items (numbers_held t.params words) old x new
+asked : (m : Module) (shows : List Show) (func : ℕ) (t : FuncType) (memory items read words : List ℕ) (old new : HostState) (a x : Answer) → memory ≡ items → read ≡ words → a ≡ x
+    → AsksHost m shows func t memory (numbers_held t.params read) old a new → AsksHost m shows func t items (numbers_held t.params words) old x new
 asked m shows func t memory items read words old new a x same held is asks =
     subst (λ y. AsksHost m shows func t items (numbers_held t.params words) old y new) is
     (subst (λ ws. AsksHost m shows func t items (numbers_held t.params ws) old a new) held (subst (λ ms. AsksHost m shows func t ms (numbers_held t.params read) old a new) same asks))

@@ -1,9 +1,13 @@
 use Rattle.std.proofs.Common.{◌≡◌, ℕ, ◌-◌, ◌<◌, ◌++◌, List, [], ◌∷◌, length, take, drop, None, Some, refl, ap, subst, ◌∙◌, rules}
 use Rattle.std.proofs.lemmas.List.{take_rest}
 use Rattle.zw_wasm.specs.Functions.{func_type}
+use Rattle.zw_wasm.specs.declared.module.FuncType.{FuncType}
+use Rattle.zw_wasm.specs.declared.module.Module.{Module}
+use Rattle.zw_wasm_run.specs.declared.ask.Answer.{Answer}
 use Rattle.zw_wasm_run.specs.declared.ask.Answer.TheVariants as answer
-use Rattle.zw_wasm_run.specs.Hosting.{AsksHost, numbers_held}
-use Rattle.zw_wasm_run.proofs.HostCalls.{append_nothing, arg_words, host_ends, host_short}
+use Rattle.zw_wasm_run.specs.declared.machine.Show.{Show}
+use Rattle.zw_wasm_run.specs.Hosting.{AsksHost, HostState, numbers_held}
+use Rattle.zw_wasm_run.proofs.HostCalls.{append_nothing, host_ends, host_short}
 use Rattle.zw_wasm_run.proofs.host.call_host.Goals as goal
 
 -- the last words, as they are read
@@ -13,6 +17,13 @@ words_read s words a b n value len count =
 
 words_left : (new words : List ℕ) (a b n : ℕ) → new ≡ take (a - b) words → a ≡ length words → b ≡ n → new ≡ take (length words - n) words
 words_left new words a b n is len count = is ∙ ap (λ k. take (k - b) words) len ∙ ap (λ k. take (length words - k) words) count
+
+-- what the host answered to the words, as they were read
+asked_with : (m : Module) (shows : List Show) (import : ℕ) (t : FuncType) (memory read words : List ℕ) (old new : HostState) (a x : Answer) → read ≡ words → a ≡ x
+    → AsksHost m shows import t memory (numbers_held t.params read) old a new → AsksHost m shows import t memory (numbers_held t.params words) old x new
+asked_with m shows import t memory read words old new a x held is asks =
+    subst (λ (y : Answer). AsksHost m shows import t memory (numbers_held t.params words) old y new) is
+    (subst (λ (ws : List ℕ). AsksHost m shows import t memory (numbers_held t.params ws) old a new) held asks)
 
 pub returns-then-len-clause-calls : goal.returns-then-len-clause-calls
 returns-then-len-clause-calls c =
@@ -30,10 +41,9 @@ returns-in_ok-push-in-Goes-clause-calls c =
     let count : c.len-4.result ≡ length t.params = search rules in
     let a : c.in_ok-reply.field-0 ≡ answer.Goes (Some c.in-Some-reply.reply) = c.in-Goes.is ∙ ap (λ r. answer.Goes r) c.in-Some-reply.is in
     let read = words_read c.as_slice.result.now words c.len-3.result c.len-4.result (length t.params) value len count in
-    let left : c.truncate.new.self.items ≡ take (length words - length t.params) words = words_left c.truncate.new.self.items words c.len-3.result c.len-4.result (length t.params) c.truncate.ensures.items len count in
+    let left = words_left c.truncate.new.self.items words c.len-3.result c.len-4.result (length t.params) c.truncate.ensures.items len count in
     host_ends c.args.m.now c.args.shows.now c.args.import t c.args.memory.now c.args.stacks.now _ _ _ (answer.Goes (Some c.in-Some-reply.reply)) is c.requires.imported
-    (subst (λ x. AsksHost c.args.m.now c.args.shows.now c.args.import t c.args.memory.now (numbers_held t.params (arg_words t words)) (record { replies = c.args.replies.now; log = c.args.log.now.items }) x (record { replies = c.ask_host.new.replies; log = c.ask_host.new.log.items })) a
-    (subst (λ ws. AsksHost c.args.m.now c.args.shows.now c.args.import t c.args.memory.now (numbers_held t.params ws) (record { replies = c.args.replies.now; log = c.args.log.now.items }) c.in_ok-reply.field-0 (record { replies = c.ask_host.new.replies; log = c.ask_host.new.log.items })) read c.in_ok-reply.ensures))
+    (asked_with _ _ _ _ _ _ _ _ _ _ _ read a c.in_ok-reply.ensures)
     refl refl refl (c.in_ok-push-in-Goes.ensures.items ∙ ap (λ ws. ws ++ c.in-Some-reply.reply ∷ []) left)
 
 pub returns-in_default-reply-clause-calls : goal.returns-in_default-reply-clause-calls
@@ -46,10 +56,9 @@ returns-in_default-reply-clause-calls c =
     let count : c.len-4.result ≡ length t.params = search rules in
     let a : c.in_ok-reply.field-0 ≡ answer.Goes None = c.in-Goes.is ∙ ap (λ r. answer.Goes r) c.in_default-reply.is in
     let read = words_read c.as_slice.result.now words c.len-3.result c.len-4.result (length t.params) value len count in
-    let left : c.truncate.new.self.items ≡ take (length words - length t.params) words = words_left c.truncate.new.self.items words c.len-3.result c.len-4.result (length t.params) c.truncate.ensures.items len count in
+    let left = words_left c.truncate.new.self.items words c.len-3.result c.len-4.result (length t.params) c.truncate.ensures.items len count in
     host_ends c.args.m.now c.args.shows.now c.args.import t c.args.memory.now c.args.stacks.now _ _ _ (answer.Goes None) is c.requires.imported
-    (subst (λ x. AsksHost c.args.m.now c.args.shows.now c.args.import t c.args.memory.now (numbers_held t.params (arg_words t words)) (record { replies = c.args.replies.now; log = c.args.log.now.items }) x (record { replies = c.ask_host.new.replies; log = c.ask_host.new.log.items })) a
-    (subst (λ ws. AsksHost c.args.m.now c.args.shows.now c.args.import t c.args.memory.now (numbers_held t.params ws) (record { replies = c.args.replies.now; log = c.args.log.now.items }) c.in_ok-reply.field-0 (record { replies = c.ask_host.new.replies; log = c.ask_host.new.log.items })) read c.in_ok-reply.ensures))
+    (asked_with _ _ _ _ _ _ _ _ _ _ _ read a c.in_ok-reply.ensures)
     refl refl refl (left ∙ append_nothing (take (length words - length t.params) words))
 
 pub returns-in-Outside-clause-calls : goal.returns-in-Outside-clause-calls
@@ -62,8 +71,7 @@ returns-in-Outside-clause-calls c =
     let count : c.len-4.result ≡ length t.params = search rules in
     let read = words_read c.as_slice.result.now words c.len-3.result c.len-4.result (length t.params) value len count in
     host_ends c.args.m.now c.args.shows.now c.args.import t c.args.memory.now c.args.stacks.now _ _ _ answer.Outside is c.requires.imported
-    (subst (λ x. AsksHost c.args.m.now c.args.shows.now c.args.import t c.args.memory.now (numbers_held t.params (arg_words t words)) (record { replies = c.args.replies.now; log = c.args.log.now.items }) x (record { replies = c.ask_host.new.replies; log = c.ask_host.new.log.items })) c.in-Outside.is
-    (subst (λ ws. AsksHost c.args.m.now c.args.shows.now c.args.import t c.args.memory.now (numbers_held t.params ws) (record { replies = c.args.replies.now; log = c.args.log.now.items }) c.in_ok-reply.field-0 (record { replies = c.ask_host.new.replies; log = c.ask_host.new.log.items })) read c.in_ok-reply.ensures))
+    (asked_with _ _ _ _ _ _ _ _ _ _ _ read c.in-Outside.is c.in_ok-reply.ensures)
     refl refl refl tt
 
 pub returns-in-NoReply-clause-calls : goal.returns-in-NoReply-clause-calls
@@ -76,6 +84,5 @@ returns-in-NoReply-clause-calls c =
     let count : c.len-4.result ≡ length t.params = search rules in
     let read = words_read c.as_slice.result.now words c.len-3.result c.len-4.result (length t.params) value len count in
     host_ends c.args.m.now c.args.shows.now c.args.import t c.args.memory.now c.args.stacks.now _ _ _ answer.NoReply is c.requires.imported
-    (subst (λ x. AsksHost c.args.m.now c.args.shows.now c.args.import t c.args.memory.now (numbers_held t.params (arg_words t words)) (record { replies = c.args.replies.now; log = c.args.log.now.items }) x (record { replies = c.ask_host.new.replies; log = c.ask_host.new.log.items })) c.in-NoReply.is
-    (subst (λ ws. AsksHost c.args.m.now c.args.shows.now c.args.import t c.args.memory.now (numbers_held t.params ws) (record { replies = c.args.replies.now; log = c.args.log.now.items }) c.in_ok-reply.field-0 (record { replies = c.ask_host.new.replies; log = c.ask_host.new.log.items })) read c.in_ok-reply.ensures))
+    (asked_with _ _ _ _ _ _ _ _ _ _ _ read c.in-NoReply.is c.in_ok-reply.ensures)
     refl refl refl tt

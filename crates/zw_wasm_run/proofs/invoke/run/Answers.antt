@@ -60,7 +60,8 @@ call_host-requires-clause-imported c =
     (import_there c.args.code.now now c.in-Calls.import c.go_on.new.store c.go_on.new.stacks c.go_on.new.steps here pauses)
 
 -- what the host's call comes to, at the module and the memory
-host_known : (code given : Module) (shows : List Show) (import : ℕ) (memory items : List ℕ) (old new : Stacks) (before after : HostState) (e x : Hosted) → given ≡ code → memory ≡ items → e ≡ x → CallsHostOn given shows import memory old before e new after → CallsHostOn code shows import items old before x new after
+host_known : (code given : Module) (shows : List Show) (import : ℕ) (memory items : List ℕ) (old new : Stacks) (before after : HostState) (e x : Hosted) → given ≡ code → memory ≡ items → e ≡ x
+    → CallsHostOn given shows import memory old before e new after → CallsHostOn code shows import items old before x new after
 host_known code given shows import memory items old new before after e x same held is calls =
     subst (λ y. CallsHostOn code shows import items old before y new after) is
     (subst (λ ms. CallsHostOn code shows import ms old before e new after) held (subst (λ m. CallsHostOn m shows import memory old before e new after) same calls))

@@ -34,7 +34,9 @@ returns-in-BrIf c =
 
 pub returns-in-BrTable : goal.returns-in-BrTable
 returns-in-BrTable c =
-    instr_is (context_of c.args.m.now c.args.ty.now c.args.locals.now) c.args.instr.now _ c.args.self.now c.branch_by.result c.branch_by.new.self (c.in-BrTable.is ∙ ap (λ ls. BrTable c.in-BrTable.default ls) (sym (c.as_slice.ensures ∙ c.get.ensures))) (c.branch_by.ensures (context_of c.args.m.now c.args.ty.now c.args.locals.now))
+    let x = context_of c.args.m.now c.args.ty.now c.args.locals.now in
+    let is = c.in-BrTable.is ∙ ap (λ ls. BrTable c.in-BrTable.default ls) (sym (c.as_slice.ensures ∙ c.get.ensures)) in
+    instr_is x c.args.instr.now _ c.args.self.now c.branch_by.result c.branch_by.new.self is (c.branch_by.ensures x)
 
 pub returns-in-Call : goal.returns-in-Call
 returns-in-Call c =
