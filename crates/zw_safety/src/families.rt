@@ -1,12 +1,13 @@
 // The code of checked operators by family.
-ghost use Rattle.std.specs.Prelude.{◌≡◌, ◌≤◌, ◌++◌, OnOk};
-ghost use Rattle.zw_safety.specs.Families.{IsServed, IsRight, has_two, has_one, is_not, last_type, goes_wide, stored_code};
+ghost use Rattle.std.specs.Prelude.{◌≡◌, ◌↔◌, ◌≤◌, ◌++◌, IsTrue, OnOk};
+ghost use Rattle.zw_safety.specs.Families.{IsServed, IsRight, is_served, serves_in_32, serves_in_64, fit_in, amount_fits, bytes_fit, types_fit, is_kept_shift, has_code, has_two, has_one, is_not, last_type, goes_wide, stored_code};
 ghost use Rattle.zw_safety_narrow.specs.declared.setting.TheConstants.{GREATEST_SCRATCH};
 
 use std::alloc::AllocError;
-use zw_num::{IntTy, Logic, Operator};
-use zw_safety_narrow::{Setting, push_narrow};
-use zw_safety_wide::push_wide;
+use crate::served::has_at_most;
+use zw_num::{IntTy, Logic, Operator, Shift, Unary};
+use zw_safety_narrow::{Setting, holds, is_unsigned, push_narrow, width};
+use zw_safety_wide::{are_wide_shares, push_wide};
 use zw_safety_words::fill_words;
 use zw_wasm::Instr;
 
@@ -96,4 +97,86 @@ fn is_not(logic: Logic) -> bool
         Logic::Not => true,
         Logic::And | Logic::Or => false,
     }
+}
+
+/// Whether `push_checked` has code for an operator in this setting. Of an operator of one operand, which is the left one, the right type
+/// may be any.
+pub fn has_checked(operator: Operator, setting: Setting) -> bool
+    ensures { IsTrue result ↔ IsServed operator setting }
+{
+    is_served(operator, setting)
+}
+
+/// The same, by a test.
+fn is_served(operator: Operator, setting: Setting) -> bool
+    ensures { result ≡ is_served operator setting }
+{
+    serves_in_32(operator, setting) || serves_in_64(operator, setting)
+}
+
+/// Whether an operator is served on types of at most 32 bits.
+fn serves_in_32(operator: Operator, setting: Setting) -> bool
+    ensures { result ≡ serves_in_32 operator setting }
+{
+    has_code(operator)
+        && fit_in(32, operator, setting)
+        && amount_fits(operator, setting.right)
+        && bytes_fit(operator, setting.left)
+}
+
+/// Whether an operator is served on types of at most 64 bits.
+fn serves_in_64(operator: Operator, setting: Setting) -> bool
+    ensures { result ≡ serves_in_64 operator setting }
+{
+    has_code(operator)
+        && fit_in(64, operator, setting)
+        && types_fit(operator, setting)
+        && bytes_fit(operator, setting.left)
+}
+
+/// Whether operands and result have at most so many bits.
+fn fit_in(most: u8, operator: Operator, setting: Setting) -> bool
+    ensures { result ≡ fit_in most operator setting }
+{
+    has_at_most(most, setting.left)
+        && (!has_two(operator) || has_at_most(most, setting.right))
+        && has_at_most(most, setting.to)
+}
+
+/// Whether a shift takes amounts of the type, if the operator is `<<|`.
+fn amount_fits(operator: Operator, right: IntTy) -> bool
+    ensures { result ≡ amount_fits operator right }
+{
+    !matches!(operator, Operator::Shift(Shift::ShlSat)) || is_unsigned(right)
+}
+
+/// Whether the operand has whole bytes, if the operator is `@byteSwap`.
+fn bytes_fit(operator: Operator, left: IntTy) -> bool
+    ensures { result ≡ bytes_fit operator left }
+{
+    !matches!(operator, Operator::Unary(Unary::ByteSwap)) || width(left) % 8 == 0
+}
+
+/// Whether the types are what the operator asks where one has more than 32 bits.
+fn types_fit(operator: Operator, setting: Setting) -> bool
+    ensures { result ≡ types_fit operator setting }
+{
+    (!matches!(operator, Operator::Division(_))
+        || are_wide_shares(setting.left, setting.right, setting.to))
+        && (!is_kept_shift(operator) || holds(setting.to, setting.left))
+        && amount_fits(operator, setting.right)
+}
+
+/// Whether it is a shift to the left that loses no bits.
+fn is_kept_shift(operator: Operator) -> bool
+    ensures { result ≡ is_kept_shift operator }
+{
+    matches!(operator, Operator::Shift(Shift::ShlExact | Shift::ShlSat))
+}
+
+/// Whether there is code.
+fn has_code(operator: Operator) -> bool
+    ensures { result ≡ has_code operator }
+{
+    has_two(operator) || has_one(operator)
 }

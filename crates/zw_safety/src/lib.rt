@@ -6,7 +6,7 @@ mod laws;
 mod operators;
 mod served;
 
-pub use families::push_checked;
+pub use families::{has_checked, push_checked};
 pub use laws::checked_code_is_right;
 pub use operators::checked;
 pub use served::is_served;
