@@ -3,3 +3,4 @@ pub mod Checked
 pub mod WideOperators
 pub mod StoredCode
 pub mod Served
+pub mod Families

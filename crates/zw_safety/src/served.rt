@@ -57,7 +57,7 @@ fn have_at_most(most: u8, op: u16, left: IntTy, right: IntTy, to: IntTy) -> bool
 }
 
 /// Whether a sized type has at most so many bits.
-fn has_at_most(most: u8, ty: IntTy) -> bool
+pub fn has_at_most(most: u8, ty: IntTy) -> bool
     ensures { result ≡ has_at_most most ty }
 {
     match ty {
