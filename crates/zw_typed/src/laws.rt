@@ -29,8 +29,8 @@ pub fn flow_is_worked()
     ensures { WorkedFlow }
 {}
 
-/// Whatever is evaluated or called, and however it ends, over whole sessions too: turns that are left only fall, what is counted only grows, and host calls
-/// come behind the earlier ones.
+/// Whatever is evaluated or called, and however it ends, over whole sessions too: turns that are left only fall, what is counted only
+/// grows, and host calls come behind the earlier ones.
 pub fn runs_grow()
     ensures { RunsGrow }
 {}
