@@ -12,10 +12,10 @@ use Rattle.zw_typed.specs.declared.program.Export.{Export}
 use Rattle.zw_typed.specs.Programs.{HasForm, IsFunc, IsHostFunc, IsExport, IsWellFormed}
 use Rattle.zw_typed.specs.WorkedPrograms.{byte, id, calling}
 
-none_pairs : {X : Type 0} (R : X → X → Type 0) → AllPairs R []
+pub none_pairs : {X : Type 0} (R : X → X → Type 0) → AllPairs R []
 none_pairs R = λ i j d l m. absurd (omega arith)
 
-one : {X : Type 0} (P : X → Type 0) (x : X) → P x → All P (x ∷ [])
+pub one : {X : Type 0} (P : X → Type 0) (x : X) → P x → All P (x ∷ [])
 one P x i = All-cons P x [] i (All-nil P)
 
 fitting : (k : ℕ) (shape : ShapeTree) → slice_get calling.types.shapes k ≡ Some (Some shape) → ⊥
@@ -23,7 +23,7 @@ fitting zero shape e = cc
 fitting (suc zero) shape e = cc
 fitting (suc (suc k)) shape e = cc
 
-types : IsTable calling.types
+pub types : IsTable calling.types
 types = record {
   once = AllPairs-cons (λ (a b : TypeTree). a ≢ b) byte (tree.NoReturnType ∷ []) (one (λ (b : TypeTree). byte ≢ b) tree.NoReturnType (λ e. cc))
       (AllPairs-cons (λ (a b : TypeTree). a ≢ b) tree.NoReturnType [] (All-nil (λ (b : TypeTree). tree.NoReturnType ≢ b)) (none_pairs (λ (a b : TypeTree). a ≢ b)));

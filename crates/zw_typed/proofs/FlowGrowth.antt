@@ -3,6 +3,7 @@
 use Rattle.std.proofs.Common.{◌≡◌, refl, ℕ, zero, suc, ◌+◌, ◌≤◌, Bool, true, false, List, [], ◌∷◌, ◌++◌, Option, Some, None, arith}
 use Rattle.std.specs.Prelude.{◌-◌, length, replicate, slice_get}
 use Rattle.std.specs.List.{list_any}
+use Rattle.zw_session.specs.Sessions as sessions
 use Rattle.zw_session.specs.Sessions.{Scalar, HostEvent}
 use Rattle.zw_session.proofs.Prefixes.{prefix_same, prefix_trans, prefix_front}
 use Rattle.zw_types.specs.TypeTrees as tree
@@ -12,17 +13,17 @@ use Rattle.zw_values.specs.Operations as operation
 use Rattle.zw_values.specs.Operations.{Logic, And, Or, given}
 use Rattle.zw_values.specs.Wild.{is_undefined}
 use Rattle.zw_typed.specs.Nodes.{Import}
-use Rattle.zw_typed.specs.NodeMeanings.{scalars_of}
+use Rattle.zw_typed.specs.NodeMeanings.{scalar_of, scalars_of}
 use Rattle.zw_typed.specs.Exports.{values_of}
 use Rattle.zw_typed.specs.FlowNodes.{Variable, FlowNode, FlowNodes, node, no_nodes, node_and, Function, type_of, types_of, Form, Constant, Read, Write, Declare, Scope, Operate, Become, Decide, Choose, InOrder, Target, Leave, Repeat, Count, Call, CallHost, Return, Stop}
 use Rattle.zw_typed.specs.FlowOperators.{operation_of}
-use Rattle.zw_typed.specs.FlowCounts.{work_of, work_of_turn, work_of_call}
+use Rattle.zw_typed.specs.FlowCounts.{Counts, work_of, work_of_turn, work_of_call}
 use Rattle.zw_typed.specs.FlowRanges.{Bounds, bounds_of, Turns, Due, Fails, NoEnd, turns_due}
 use Rattle.zw_typed.specs.FlowRuns.{Run, End, Gives, Leaves, Returns, Stops, Stuck, Evaluated, gives, goes_on, and_then, with_visit, with_bytes, with_value, turn, with_turn, object_of, object_ended, declared, ended, scoped}
 use Rattle.zw_typed.specs.Weights.{run_size}
 use Rattle.zw_typed.specs.FlowMeanings.{Calls, usize, arrives, read_from, read, stored, written_to, write, wild_or_stuck, outcome_of, operated, by_truth, decided, at_label, at_target, repeated, capture_at, capture_of, captured, counted, by_turns, over_ranges, replied, host_called, evaluated, meant, all_evaluated, bound, is_void, at_end, returned, back, body_done, entered, found_called, calls_within}
-use Rattle.zw_typed.specs.FlowMachines.{Functions, Kept, run_from, call_of}
-use Rattle.zw_typed.specs.FlowLaws.{Grows, RunsGrow}
+use Rattle.zw_typed.specs.FlowMachines.{Functions, Kept, kept_by, run_from, call_of, call_end, result_end, result_of, exported, counts_after, session_counts}
+use Rattle.zw_typed.specs.FlowLaws.{Grows, CountsGrow, RunsGrow}
 use Rattle.std.specs.Prelude.{slice_set, pos, nat_eq, nat_le}
 
 -- the relation goes on, and each single change keeps it
@@ -336,9 +337,45 @@ growing = record {
   event = λ a e. record { turns = omega arith; visits = omega arith; moved = omega arith; work = omega arith; events = prefix_front a.events (e ∷ []) };
 }
 
+-- ---- over a session
+
+counts_same : (c : Counts) → CountsGrow c c
+counts_same c = record { visits = omega arith; moved = omega arith; work = omega arith }
+
+counts_on : (a b c : Counts) → CountsGrow a b → CountsGrow b c → CountsGrow a c
+counts_on a b c g h = record { visits = omega (arith, g.visits, h.visits); moved = omega (arith, g.moved, h.moved); work = omega (arith, g.work, h.work) }
+
+result_grows : (ty : TypeTree) (value : Option Scalar) (run : Run) (go : Kept → List ℕ → ℕ → Counts) →
+    ((kept : Kept) (replies : List ℕ) (left : ℕ) → CountsGrow kept.counts (go kept replies left)) →
+    CountsGrow run.counts (counts_after (result_end ty value run) run.counts go)
+result_grows tree.VoidType value run go each = each (kept_by run) run.replies run.turns
+result_grows _ (Some value) run go each = each (kept_by run) run.replies run.turns
+result_grows _ None run go each = counts_same run.counts
+
+end_grows : (ty : TypeTree) (end : End ValueTree) (run : Run) (go : Kept → List ℕ → ℕ → Counts) →
+    ((kept : Kept) (replies : List ℕ) (left : ℕ) → CountsGrow kept.counts (go kept replies left)) →
+    CountsGrow run.counts (counts_after (call_end ty end run) run.counts go)
+end_grows ty (Gives v) run go each = result_grows ty (scalar_of v) run go each
+end_grows ty (Leaves target from v) run go each = counts_same run.counts
+end_grows ty (Returns from v) run go each = counts_same run.counts
+end_grows ty (Stops halt) run go each = counts_same run.counts
+end_grows ty Stuck run go each = counts_same run.counts
+
+session_grows : (depth : ℕ) (p : Functions) (calls : List sessions.Call) (kept : Kept) (replies : List ℕ) (turns : ℕ) →
+    CountsGrow kept.counts (session_counts depth p calls kept replies turns)
+session_grows depth p [] kept replies turns = counts_same kept.counts
+session_grows depth p (call ∷ calls) kept replies turns =
+    let f : Option Function = exported p call.name in
+    let r : Evaluated ValueTree = call_of depth p kept f call.args replies turns in
+    let g : Grows (run_from kept replies turns) r.run = exported_kept Grows growing depth p kept f call.args replies turns in
+    counts_on kept.counts r.run.counts (counts_after (call_end (result_of f) r.end r.run) r.run.counts (λ k rs n. session_counts depth p calls k rs n))
+    (record { visits = g.visits; moved = g.moved; work = g.work })
+    (end_grows (result_of f) r.end r.run (λ k rs n. session_counts depth p calls k rs n) (λ k rs n. session_grows depth p calls k rs n))
+
 pub runs_grow : RunsGrow
 runs_grow = record {
   node = λ functions room n run. node_kept Grows growing (calls_within functions room) (λ f args a. calls_kept Grows growing functions room f args a) n run;
   called = λ functions room f args run. calls_kept Grows growing functions room f args run;
   exported = λ depth p kept f args replies turns. exported_kept Grows growing depth p kept f args replies turns;
+  session = λ depth p calls kept replies turns. session_grows depth p calls kept replies turns;
 }

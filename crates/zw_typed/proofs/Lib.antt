@@ -3,3 +3,4 @@ pub mod CallingLemmas
 pub mod NameLemmas
 pub mod FlowGrowth
 pub mod FlowStaying
+pub mod LeavingLemmas

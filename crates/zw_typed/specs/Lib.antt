@@ -18,3 +18,4 @@ pub mod WorkedFlow
 pub mod FlowLaws
 pub mod FlowTypes
 pub mod FlowPrograms
+pub mod WorkedFlowPrograms

@@ -6,6 +6,7 @@ ghost use Rattle.zw_typed.specs.Exports.{Exported, exports_machine};
 ghost use Rattle.zw_typed.specs.FlowLaws.{RunsGrow, RunsStayEnded};
 ghost use Rattle.zw_typed.specs.HostTypes.{is_utf8_name};
 ghost use Rattle.zw_typed.specs.WorkedFlow.{WorkedFlow};
+ghost use Rattle.zw_typed.specs.WorkedFlowPrograms.{WorkedFlowPrograms};
 ghost use Rattle.zw_typed.specs.WorkedPrograms.{WorkedPrograms};
 
 /// A call of an exported function that ended stays ended under a larger bound, so that sessions of it do.
@@ -28,8 +29,8 @@ pub fn flow_is_worked()
     ensures { WorkedFlow }
 {}
 
-/// Whatever is evaluated or called, and however it ends: turns that are left only fall, what is counted only grows, and host calls
-/// come behind the earlier ones.
+/// Whatever is evaluated or called, and however it ends, over whole sessions too: turns that are left only fall, what is counted only
+/// grows, and host calls come behind the earlier ones.
 pub fn runs_grow()
     ensures { RunsGrow }
 {}
@@ -37,4 +38,9 @@ pub fn runs_grow()
 /// More turns change nothing where evaluating a node, a call or a session ended.
 pub fn runs_stay_ended()
     ensures { RunsStayEnded }
+{}
+
+/// A program by numbers with a block that is left, and two that aren't well-formed, worked out by hand.
+pub fn flow_programs_are_worked()
+    ensures { WorkedFlowPrograms }
 {}
