@@ -2,6 +2,7 @@
 -- and no driver, and of a run-time node only that a part may have one: `N` stands for such nodes.
 use Rattle.std.specs.Prelude.{ℕ, Bool, true, false, List, Option, Some, None}
 use Rattle.zw_base.specs.declared.stop.StopKind.{StopKind}
+use Rattle.zw_num.specs.declared.operator.Operator.{Operator}
 use Rattle.zw_types.specs.TypeTrees as tree
 use Rattle.zw_types.specs.TypeTrees.{TypeTree, ValueTree}
 use Rattle.zw_typed.specs.Nodes.{Op}
@@ -23,8 +24,8 @@ pub data Next (N : Type 0) : Type 0 where
   Visit : ℕ → Option TypeTree → Next N
   VisitKnown : ℕ → Option TypeTree → Next N
   VisitUnevaluated : ℕ → Option TypeTree → Next N
-  -- an operation of `zw_num`, by its number, in a result type: a value where all operands are known, and else a node
-  Operation : ℕ → TypeTree → List (Operand N) → Next N
+  -- an operator in a result type: a value where all operands are known, and else a node
+  Operation : Operator → TypeTree → List (Operand N) → Next N
   -- a node, whatever is known
   Emit : Op → TypeTree → List (Operand N) → Next N
   -- what a name stands for

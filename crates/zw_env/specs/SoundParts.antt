@@ -1,8 +1,9 @@
 -- When what is known of parts is of their types, and when what a rule asks for keeps to that (this project's own).
 use Rattle.std.specs.Prelude.{◌≡◌, ℕ, List, [], ◌∷◌, Option, Some, None}
+use Rattle.zw_num.specs.declared.operator.Operator.{Operator}
 use Rattle.zw_types.specs.TypeTrees.{TypeTree, ValueTree}
-use Rattle.zw_values.specs.Operations as operation
-use Rattle.zw_values.specs.Operations.{applied}
+use Rattle.zw_values.specs.Applied as operation
+use Rattle.zw_values.specs.Applied.{applied}
 use Rattle.zw_typed.specs.ValueTypes.{HasWidths, IsValueOf, AreValuesOf, IsKnownOf}
 use Rattle.zw_env.specs.Parts.{Part, Operand, Next, Visit, VisitKnown, VisitUnevaluated, Operation, Emit, Lookup, Bind, Returns, Raise, Done, Halt, HaltAt}
 use Rattle.zw_env.specs.Parts as next
@@ -29,7 +30,7 @@ IsSoundWish None = Unit {0}
 IsSoundWish (Some ty) = HasWidths ty
 
 -- an operation on values of these types gives values of the result type
-abbrev pub StaysIn : ℕ → List TypeTree → TypeTree → Type 0
+abbrev pub StaysIn : Operator → List TypeTree → TypeTree → Type 0
 StaysIn name from to =
     (values : List ValueTree) → AreValuesOf from values → (v : ValueTree) → applied name from to values ≡ operation.Gives v → IsValueOf to v
 

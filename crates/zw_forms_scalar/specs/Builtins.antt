@@ -3,7 +3,14 @@
 use Rattle.std.specs.Prelude.{ℕ, ◌%◌, pos, Bool, true, false, not, ◌&&◌, nat_eq, nat_le, if◌then◌else◌, List, [], ◌∷◌, ◌++◌, length, slice_get, Option, Some, None, codes}
 use Rattle.std.specs.Str.{bytes_eq}
 use Rattle.zw_base.specs.declared.stop.StopKind.TheVariants.{Error}
-use Rattle.zw_num.specs.declared.op.TheConstants as number
+use Rattle.zw_num.specs.declared.operator.Cast.TheVariants as cast
+use Rattle.zw_num.specs.declared.operator.Count.TheVariants as count
+use Rattle.zw_num.specs.declared.operator.Division.TheVariants as quotient
+use Rattle.zw_num.specs.declared.operator.Extreme.TheVariants as extreme
+use Rattle.zw_num.specs.declared.operator.Shift.TheVariants as shift
+use Rattle.zw_num.specs.declared.operator.Unary.TheVariants as one
+use Rattle.zw_num.specs.declared.operator.Operator.{Operator}
+use Rattle.zw_num.specs.declared.operator.Operator.TheVariants as family
 use Rattle.zw_types.specs.TypeTrees as tree
 use Rattle.zw_types.specs.TypeTrees.{TypeTree}
 use Rattle.zw_values.specs.Coercions.{peer_of_all}
@@ -94,25 +101,25 @@ pub data Builtin : Type 0 where
   -- of one type: its size, its alignment, its bits
   SizeOf AlignOf BitSizeOf : Builtin
   -- one integer becomes one of the wanted type, where it can
-  Casts : ℕ → (TypeTree → TypeTree → Bool) → Builtin
+  Casts : Operator → (TypeTree → TypeTree → Bool) → Builtin
   -- one operand, with a result of a type that its own decides, where there is one
-  OnOwn : ℕ → (TypeTree → Option TypeTree) → Builtin
+  OnOwn : Operator → (TypeTree → Option TypeTree) → Builtin
   -- two integers in the peer type; two or more; an integer and an amount
-  InPeer InPeers InShift : ℕ → Builtin
+  InPeer InPeers InShift : Operator → Builtin
   Quota : Builtin
 
 abbrev pub builtins : List (List ℕ × Builtin)
 builtins =
     (codes "as", AsType) ∷ (codes "TypeOf", TypeOf) ∷ (codes "sizeOf", SizeOf) ∷ (codes "alignOf", AlignOf) ∷
-    (codes "bitSizeOf", BitSizeOf) ∷ (codes "intCast", Casts number.INT_CAST can_cast) ∷
-    (codes "truncate", Casts number.TRUNCATE can_truncate) ∷ (codes "bitCast", Casts number.BIT_CAST can_bit_cast) ∷
-    (codes "intFromBool", OnOwn number.INT_FROM_BOOL truth_number) ∷ (codes "divTrunc", InPeer number.DIV_TRUNC) ∷
-    (codes "divFloor", InPeer number.DIV_FLOOR) ∷ (codes "divExact", InPeer number.DIV_EXACT) ∷
-    (codes "rem", InPeer number.REM_TRUNC) ∷ (codes "mod", InPeer number.MOD) ∷ (codes "shlExact", InShift number.SHL_EXACT) ∷
-    (codes "shrExact", InShift number.SHR_EXACT) ∷ (codes "clz", OnOwn number.CLZ count_type) ∷
-    (codes "ctz", OnOwn number.CTZ count_type) ∷ (codes "popCount", OnOwn number.POP_COUNT count_type) ∷
-    (codes "byteSwap", OnOwn number.BYTE_SWAP whole_bytes) ∷ (codes "bitReverse", OnOwn number.BIT_REVERSE any_sized) ∷
-    (codes "abs", OnOwn number.ABS abs_type) ∷ (codes "min", InPeers number.MIN) ∷ (codes "max", InPeers number.MAX) ∷
+    (codes "bitSizeOf", BitSizeOf) ∷ (codes "intCast", Casts (family.Cast cast.IntCast) can_cast) ∷
+    (codes "truncate", Casts (family.Cast cast.Truncate) can_truncate) ∷ (codes "bitCast", Casts (family.Cast cast.BitCast) can_bit_cast) ∷
+    (codes "intFromBool", OnOwn (family.Cast cast.IntFromBool) truth_number) ∷ (codes "divTrunc", InPeer (family.Division quotient.DivTrunc)) ∷
+    (codes "divFloor", InPeer (family.Division quotient.DivFloor)) ∷ (codes "divExact", InPeer (family.Division quotient.DivExact)) ∷
+    (codes "rem", InPeer (family.Division quotient.RemTrunc)) ∷ (codes "mod", InPeer (family.Division quotient.Mod)) ∷ (codes "shlExact", InShift (family.Shift shift.ShlExact)) ∷
+    (codes "shrExact", InShift (family.Shift shift.ShrExact)) ∷ (codes "clz", OnOwn (family.Count count.Clz) count_type) ∷
+    (codes "ctz", OnOwn (family.Count count.Ctz) count_type) ∷ (codes "popCount", OnOwn (family.Count count.PopCount) count_type) ∷
+    (codes "byteSwap", OnOwn (family.Unary one.ByteSwap) whole_bytes) ∷ (codes "bitReverse", OnOwn (family.Unary one.BitReverse) any_sized) ∷
+    (codes "abs", OnOwn (family.Unary one.Abs) abs_type) ∷ (codes "min", InPeers (family.Extreme extreme.Min)) ∷ (codes "max", InPeers (family.Extreme extreme.Max)) ∷
     (codes "setEvalBranchQuota", Quota) ∷ []
 
 abbrev pub builtin_in : List (List ℕ × Builtin) → List ℕ → Option Builtin
@@ -154,27 +161,27 @@ measure_rule f ty [] = VisitKnown ty (Some tree.TypeType)
 measure_rule f ty (t ∷ more) = on_type f t
 
 -- a type has to be wanted, and be one of integers that the operand can become
-abbrev pub cast_to : {N : Type 0} → ℕ → (TypeTree → TypeTree → Bool) → TypeTree → Part N → Next N
+abbrev pub cast_to : {N : Type 0} → Operator → (TypeTree → TypeTree → Bool) → TypeTree → Part N → Next N
 cast_to name can to a = if is_integer to && can a.ty to then Operation name to (alone a ∷ []) else Halt (Error 20)
 
-abbrev pub cast_rule : {N : Type 0} → ℕ → (TypeTree → TypeTree → Bool) → Option TypeTree → ℕ → List (Part N) → Next N
+abbrev pub cast_rule : {N : Type 0} → Operator → (TypeTree → TypeTree → Bool) → Option TypeTree → ℕ → List (Part N) → Next N
 cast_rule name can None operand parts = Halt (Error 29)
 cast_rule name can (Some to) operand [] = Visit operand None
 cast_rule name can (Some to) operand (a ∷ []) = cast_to name can to a
 cast_rule name can (Some to) operand (a ∷ result ∷ more) = Done result
 
-abbrev pub own_rule : {N : Type 0} → ℕ → (TypeTree → Option TypeTree) → ℕ → List (Part N) → Next N
+abbrev pub own_rule : {N : Type 0} → Operator → (TypeTree → Option TypeTree) → ℕ → List (Part N) → Next N
 own_rule name result_of operand [] = Visit operand None
 own_rule name result_of operand (a ∷ []) = elim (result_of a.ty) [ None ↦ Halt (Error 20) | Some to ↦ Operation name to (alone a ∷ []) ]
 own_rule name result_of operand (a ∷ result ∷ more) = Done result
 
-abbrev pub peer_rule : {N : Type 0} → ℕ → ℕ → ℕ → List (Part N) → Next N
+abbrev pub peer_rule : {N : Type 0} → Operator → ℕ → ℕ → List (Part N) → Next N
 peer_rule name left right [] = Visit left None
 peer_rule name left right (a ∷ []) = Visit right None
 peer_rule name left right (a ∷ b ∷ []) = arithmetic name a b
 peer_rule name left right (a ∷ b ∷ result ∷ more) = Done result
 
-abbrev pub shift_rule : {N : Type 0} → ℕ → ℕ → ℕ → List (Part N) → Next N
+abbrev pub shift_rule : {N : Type 0} → Operator → ℕ → ℕ → List (Part N) → Next N
 shift_rule name left right [] = Visit left None
 shift_rule name left right (a ∷ []) = Visit right (amount_type a.ty)
 shift_rule name left right (a ∷ b ∷ []) = shifting name a b
@@ -203,11 +210,11 @@ abbrev pub peer_part : {N : Type 0} → List TypeTree → Next N
 peer_part [] = Halt (Error 18)
 peer_part (ty ∷ types) = elim (peer_of_all ty types) [ None ↦ Halt (Error 14) | Some peer ↦ Done (a_value tree.TypeType (tree.TypeValue peer)) ]
 
-abbrev pub in_peers : {N : Type 0} → ℕ → List (Part N) → List TypeTree → Next N
+abbrev pub in_peers : {N : Type 0} → Operator → List (Part N) → List TypeTree → Next N
 in_peers name parts [] = Halt (Error 18)
 in_peers name parts (ty ∷ types) = elim (peer_of_all ty types) [ None ↦ Halt (Error 14) | Some peer ↦ Operation name peer (all_in peer parts) ]
 
-abbrev pub peers_due : {N : Type 0} → ℕ → List (Part N) → Next N
+abbrev pub peers_due : {N : Type 0} → Operator → List (Part N) → Next N
 peers_due name parts = if all_integers parts then in_peers name parts (types_of parts) else Halt (Error 20)
 
 -- the quota takes any known integer, and gives nothing

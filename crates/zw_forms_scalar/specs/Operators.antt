@@ -2,14 +2,21 @@
 -- (this project's own): 14 no peer type, 16 a known value is required, 20 not defined on the type, 21 illegal while compiling.
 use Rattle.std.specs.Prelude.{ℕ, ℤ, pos, negsuc, Bool, true, false, not, ◌&&◌, ◌||◌, nat_eq, nat_le, int_lt, if◌then◌else◌, List, [], ◌∷◌, Option, Some, None}
 use Rattle.zw_base.specs.declared.stop.StopKind.TheVariants.{Error}
-use Rattle.zw_num.specs.declared.op.TheConstants as number
+use Rattle.zw_num.specs.declared.operator.Arithmetic.TheVariants as sum
+use Rattle.zw_num.specs.declared.operator.Bitwise.TheVariants as bits
+use Rattle.zw_num.specs.declared.operator.Comparison.TheVariants as order
+use Rattle.zw_num.specs.declared.operator.Division.TheVariants as quotient
+use Rattle.zw_num.specs.declared.operator.Logic.TheVariants as logic
+use Rattle.zw_num.specs.declared.operator.Shift.TheVariants as shift
+use Rattle.zw_num.specs.declared.operator.Unary.TheVariants as one
+use Rattle.zw_num.specs.declared.operator.Operator.{Operator}
+use Rattle.zw_num.specs.declared.operator.Operator.TheVariants as family
 use Rattle.zw_tree.specs.declared.kind.NodeKind.{NodeKind}
 use Rattle.zw_tree.specs.declared.kind.NodeKind.TheVariants as kind
 use Rattle.zw_types.specs.TypeTrees as tree
 use Rattle.zw_types.specs.TypeTrees.{TypeTree, ValueTree}
 use Rattle.zw_values.specs.Coercions.{integer_of, peer_of}
-use Rattle.zw_values.specs.Operations.{Logic, And, Or}
-use Rattle.zw_typed.specs.Nodes.{Decide}
+use Rattle.zw_typed.specs.Nodes.{Logic, And, Or, Decide}
 use Rattle.zw_env.specs.Parts.{Part, Next, Visit, Operation, Emit, Done, Halt, a_value, in_type, alone}
 
 -- ---- what is asked of a part
@@ -65,21 +72,21 @@ is_natural (negsuc n) = false
 
 -- ---- two integers in the peer type
 
-abbrev pub in_peer : {N : Type 0} → ℕ → Part N → Part N → Option TypeTree → Next N
+abbrev pub in_peer : {N : Type 0} → Operator → Part N → Part N → Option TypeTree → Next N
 in_peer name a b None = Halt (Error 14)
 in_peer name a b (Some ty) = Operation name ty (in_type ty a ∷ in_type ty b ∷ [])
 
-abbrev pub arithmetic : {N : Type 0} → ℕ → Part N → Part N → Next N
+abbrev pub arithmetic : {N : Type 0} → Operator → Part N → Part N → Next N
 arithmetic name a b = if is_integer a.ty && is_integer b.ty then in_peer name a b (peer_of a.ty b.ty) else Halt (Error 20)
 
 -- `/` and `%`: unsigned, or known with a numerator of at least 0 and a denominator above 0; a denominator that is known to be 0 can't be
-abbrev pub division_in : {N : Type 0} → ℕ → Part N → Part N → Option TypeTree → Next N
+abbrev pub division_in : {N : Type 0} → Operator → Part N → Part N → Option TypeTree → Next N
 division_in name a b None = Halt (Error 14)
 division_in name a b (Some ty) =
     if is_unsigned ty then (if known_is is_zero b.known then Halt (Error 21) else in_peer name a b (Some ty))
     else (if known_is is_natural a.known && known_is is_positive b.known then in_peer name a b (Some ty) else Halt (Error 20))
 
-abbrev pub division : {N : Type 0} → ℕ → Part N → Part N → Next N
+abbrev pub division : {N : Type 0} → Operator → Part N → Part N → Next N
 division name a b = if is_integer a.ty && is_integer b.ty then division_in name a b (peer_of a.ty b.ty) else Halt (Error 20)
 
 -- ---- shifts
@@ -97,26 +104,26 @@ amount_type tree.ComptimeIntType = Some tree.ComptimeIntType
 amount_type _ = None
 
 -- a `comptime_int` is shifted by an amount that is known
-abbrev pub shift_by : {N : Type 0} → ℕ → Part N → Part N → Next N
+abbrev pub shift_by : {N : Type 0} → Operator → Part N → Part N → Next N
 shift_by name a b =
     if is_comptime_int a.ty && not (is_some b.known) then Halt (Error 16) else Operation name a.ty (alone a ∷ alone b ∷ [])
 
-abbrev pub shifting : {N : Type 0} → ℕ → Part N → Part N → Next N
+abbrev pub shifting : {N : Type 0} → Operator → Part N → Part N → Next N
 shifting name a b = if is_integer a.ty && is_integer b.ty then shift_by name a b else Halt (Error 20)
 
 -- the amount of `<<|` is of an unsigned type, or a known `comptime_int` that isn't negative
 abbrev pub is_saturating_amount : {N : Type 0} → Part N → Bool
 is_saturating_amount b = is_unsigned b.ty || (is_comptime_int b.ty && known_is is_natural b.known)
 
-abbrev pub saturating_shift : {N : Type 0} → ℕ → Part N → Part N → Next N
+abbrev pub saturating_shift : {N : Type 0} → Operator → Part N → Part N → Next N
 saturating_shift name a b = if is_integer a.ty && is_saturating_amount b then shift_by name a b else Halt (Error 20)
 
 -- ---- comparisons, of exact values whatever the types of the integers
 
-abbrev pub compared : {N : Type 0} → ℕ → Part N → Part N → Next N
+abbrev pub compared : {N : Type 0} → Operator → Part N → Part N → Next N
 compared name a b = Operation name tree.BoolType (alone a ∷ alone b ∷ [])
 
-abbrev pub ordering : {N : Type 0} → ℕ → Part N → Part N → Next N
+abbrev pub ordering : {N : Type 0} → Operator → Part N → Part N → Next N
 ordering name a b = if is_integer a.ty && is_integer b.ty then compared name a b else Halt (Error 20)
 
 abbrev pub has_equality : TypeTree → Bool
@@ -125,7 +132,7 @@ has_equality ty = is_integer ty || is_truth ty || is_type ty
 abbrev pub are_alike : TypeTree → TypeTree → Bool
 are_alike a b = (is_integer a && is_integer b) || (is_truth a && is_truth b) || (is_type a && is_type b)
 
-abbrev pub equality : {N : Type 0} → ℕ → Part N → Part N → Next N
+abbrev pub equality : {N : Type 0} → Operator → Part N → Part N → Next N
 equality name a b =
     if are_alike a.ty b.ty then compared name a b else (if has_equality a.ty && has_equality b.ty then Halt (Error 14) else Halt (Error 20))
 
@@ -134,31 +141,31 @@ equality name a b =
 pub data Family : Type 0 where
   Arithmetic Division Shifting SaturatingShift Ordering Equality : Family
 
--- its family, and the number of its operation
-abbrev pub binary_operator : NodeKind → Option (Family × ℕ)
-binary_operator kind.Add = Some (Arithmetic, number.ADD)
-binary_operator kind.Subtract = Some (Arithmetic, number.SUB)
-binary_operator kind.Multiply = Some (Arithmetic, number.MUL)
-binary_operator kind.AddWrap = Some (Arithmetic, number.ADD_WRAP)
-binary_operator kind.SubtractWrap = Some (Arithmetic, number.SUB_WRAP)
-binary_operator kind.MultiplyWrap = Some (Arithmetic, number.MUL_WRAP)
-binary_operator kind.AddSaturate = Some (Arithmetic, number.ADD_SAT)
-binary_operator kind.SubtractSaturate = Some (Arithmetic, number.SUB_SAT)
-binary_operator kind.MultiplySaturate = Some (Arithmetic, number.MUL_SAT)
-binary_operator kind.BitAnd = Some (Arithmetic, number.BIT_AND)
-binary_operator kind.BitOr = Some (Arithmetic, number.BIT_OR)
-binary_operator kind.BitXor = Some (Arithmetic, number.BIT_XOR)
-binary_operator kind.Divide = Some (Division, number.DIV)
-binary_operator kind.Remainder = Some (Division, number.REM)
-binary_operator kind.ShiftLeft = Some (Shifting, number.SHL)
-binary_operator kind.ShiftRight = Some (Shifting, number.SHR)
-binary_operator kind.ShiftLeftSaturate = Some (SaturatingShift, number.SHL_SAT)
-binary_operator kind.Less = Some (Ordering, number.LESS)
-binary_operator kind.LessOrEqual = Some (Ordering, number.LESS_OR_EQUAL)
-binary_operator kind.Greater = Some (Ordering, number.GREATER)
-binary_operator kind.GreaterOrEqual = Some (Ordering, number.GREATER_OR_EQUAL)
-binary_operator kind.Equal = Some (Equality, number.EQUAL)
-binary_operator kind.NotEqual = Some (Equality, number.NOT_EQUAL)
+-- what it asks of its operands, and the operator itself
+abbrev pub binary_operator : NodeKind → Option (Family × Operator)
+binary_operator kind.Add = Some (Arithmetic, family.Arithmetic sum.Add)
+binary_operator kind.Subtract = Some (Arithmetic, family.Arithmetic sum.Sub)
+binary_operator kind.Multiply = Some (Arithmetic, family.Arithmetic sum.Mul)
+binary_operator kind.AddWrap = Some (Arithmetic, family.Arithmetic sum.AddWrap)
+binary_operator kind.SubtractWrap = Some (Arithmetic, family.Arithmetic sum.SubWrap)
+binary_operator kind.MultiplyWrap = Some (Arithmetic, family.Arithmetic sum.MulWrap)
+binary_operator kind.AddSaturate = Some (Arithmetic, family.Arithmetic sum.AddSat)
+binary_operator kind.SubtractSaturate = Some (Arithmetic, family.Arithmetic sum.SubSat)
+binary_operator kind.MultiplySaturate = Some (Arithmetic, family.Arithmetic sum.MulSat)
+binary_operator kind.BitAnd = Some (Arithmetic, family.Bitwise bits.And)
+binary_operator kind.BitOr = Some (Arithmetic, family.Bitwise bits.Or)
+binary_operator kind.BitXor = Some (Arithmetic, family.Bitwise bits.Xor)
+binary_operator kind.Divide = Some (Division, family.Division quotient.Div)
+binary_operator kind.Remainder = Some (Division, family.Division quotient.Rem)
+binary_operator kind.ShiftLeft = Some (Shifting, family.Shift shift.Shl)
+binary_operator kind.ShiftRight = Some (Shifting, family.Shift shift.Shr)
+binary_operator kind.ShiftLeftSaturate = Some (SaturatingShift, family.Shift shift.ShlSat)
+binary_operator kind.Less = Some (Ordering, family.Comparison order.Less)
+binary_operator kind.LessOrEqual = Some (Ordering, family.Comparison order.LessOrEqual)
+binary_operator kind.Greater = Some (Ordering, family.Comparison order.Greater)
+binary_operator kind.GreaterOrEqual = Some (Ordering, family.Comparison order.GreaterOrEqual)
+binary_operator kind.Equal = Some (Equality, family.Comparison order.Equal)
+binary_operator kind.NotEqual = Some (Equality, family.Comparison order.NotEqual)
 binary_operator _ = None
 
 -- what is wanted of the right operand, when the left one is there
@@ -166,7 +173,7 @@ abbrev pub right_wanted : {N : Type 0} → Family → Part N → Option TypeTree
 right_wanted Shifting a = amount_type a.ty
 right_wanted _ a = None
 
-abbrev pub on_operands : {N : Type 0} → Family → ℕ → Part N → Part N → Next N
+abbrev pub on_operands : {N : Type 0} → Family → Operator → Part N → Part N → Next N
 on_operands Arithmetic name a b = arithmetic name a b
 on_operands Division name a b = division name a b
 on_operands Shifting name a b = shifting name a b
@@ -175,7 +182,7 @@ on_operands Ordering name a b = ordering name a b
 on_operands Equality name a b = equality name a b
 
 -- The left operand, the right one, and the operator on them: `left` and `right` are the children.
-abbrev pub binary_rule : {N : Type 0} → Family → ℕ → ℕ → ℕ → List (Part N) → Next N
+abbrev pub binary_rule : {N : Type 0} → Family → Operator → ℕ → ℕ → List (Part N) → Next N
 binary_rule family name left right [] = Visit left None
 binary_rule family name left right (a ∷ []) = Visit right (right_wanted family a)
 binary_rule family name left right (a ∷ b ∷ []) = on_operands family name a b
@@ -201,15 +208,15 @@ logic_rule op left right (a ∷ b ∷ result ∷ more) = Done result
 
 -- ---- the operators with one operand
 
--- the operation, and the types that it is defined on
-abbrev pub unary_operator : NodeKind → Option (ℕ × (TypeTree → Bool))
-unary_operator kind.Negate = Some (number.NEG, has_negatives)
-unary_operator kind.NegateWrap = Some (number.NEG_WRAP, is_sized)
-unary_operator kind.BitNot = Some (number.BIT_NOT, is_sized)
-unary_operator kind.Not = Some (number.NOT, is_truth)
+-- the operator, and the types that it is defined on
+abbrev pub unary_operator : NodeKind → Option (Operator × (TypeTree → Bool))
+unary_operator kind.Negate = Some (family.Unary one.Neg, has_negatives)
+unary_operator kind.NegateWrap = Some (family.Unary one.NegWrap, is_sized)
+unary_operator kind.BitNot = Some (family.Unary one.BitNot, is_sized)
+unary_operator kind.Not = Some (family.Logic logic.Not, is_truth)
 unary_operator _ = None
 
-abbrev pub unary_rule : {N : Type 0} → ℕ → (TypeTree → Bool) → ℕ → List (Part N) → Next N
+abbrev pub unary_rule : {N : Type 0} → Operator → (TypeTree → Bool) → ℕ → List (Part N) → Next N
 unary_rule name is_defined operand [] = Visit operand None
 unary_rule name is_defined operand (a ∷ []) = if is_defined a.ty then Operation name a.ty (alone a ∷ []) else Halt (Error 20)
 unary_rule name is_defined operand (a ∷ result ∷ more) = Done result

@@ -6,9 +6,10 @@ use Rattle.zw_base.specs.declared.stop.StopKind.TheVariants.{Error, Limit}
 use Rattle.zw_tree.specs.declared.ast.Entry.{Entry}
 use Rattle.zw_tree.specs.declared.kind.NodeKind.{NodeKind}
 use Rattle.zw_tree.specs.declared.kind.NodeKind.TheVariants as kind
+use Rattle.zw_num.specs.declared.operator.Operator.{Operator}
 use Rattle.zw_types.specs.TypeTrees as tree
 use Rattle.zw_types.specs.TypeTrees.{TypeTree}
-use Rattle.zw_values.specs.Operations.{And, Or}
+use Rattle.zw_typed.specs.Nodes.{And, Or}
 use Rattle.zw_env.specs.Parts.{Part, Next, Visit, Lookup, Done, Halt, a_value}
 use Rattle.zw_forms_scalar.specs.Primitives.{primitive}
 use Rattle.zw_forms_scalar.specs.Operators.{binary_operator, unary_operator, binary_rule, unary_rule, logic_rule}
@@ -31,7 +32,7 @@ abbrev pub passed_on : {N : Type 0} → Option TypeTree → ℕ → List (Part N
 passed_on wanted inside [] = Visit inside wanted
 passed_on wanted inside (part ∷ more) = Done part
 
-abbrev pub unary_or_none : {N : Type 0} → Option (ℕ × (TypeTree → Bool)) → List ℕ → List (Part N) → Next N
+abbrev pub unary_or_none : {N : Type 0} → Option (Operator × (TypeTree → Bool)) → List ℕ → List (Part N) → Next N
 unary_or_none (Some (name, is_defined)) operands parts = unary_rule name is_defined (operand operands 0) parts
 unary_or_none None operands parts = Halt (Error 36)
 

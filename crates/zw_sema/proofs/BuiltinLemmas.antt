@@ -5,7 +5,15 @@ use Rattle.std.specs.Str.{bytes_eq}
 use Rattle.std.proofs.lemmas.Int.{ints}
 use Rattle.zw_base.specs.declared.stop.StopKind.TheVariants.{Error}
 use Rattle.zw_num.specs.declared.int_ty.IntTy.TheVariants.{Sized, Comptime}
-use Rattle.zw_num.specs.declared.op.TheConstants as number
+use Rattle.zw_num.specs.declared.operator.Extreme.{Extreme}
+use Rattle.zw_num.specs.declared.operator.Cast.TheVariants as cast
+use Rattle.zw_num.specs.declared.operator.Count.TheVariants as count
+use Rattle.zw_num.specs.declared.operator.Division.TheVariants as quotient
+use Rattle.zw_num.specs.declared.operator.Extreme.TheVariants as extreme
+use Rattle.zw_num.specs.declared.operator.Shift.TheVariants as shift
+use Rattle.zw_num.specs.declared.operator.Unary.TheVariants as one
+use Rattle.zw_num.specs.declared.operator.Operator.{Operator}
+use Rattle.zw_num.specs.declared.operator.Operator.TheVariants as family
 use Rattle.zw_num.specs.Arithmetic.{IsIn}
 use Rattle.zw_tree.specs.declared.ast.Entry.{Entry}
 use Rattle.zw_tree.specs.declared.kind.NodeKind.{NodeKind}
@@ -15,8 +23,8 @@ use Rattle.zw_types.specs.TypeTrees.{TypeTree, ValueTree}
 use Rattle.zw_layout.specs.declared.layout.Layout.{Layout}
 use Rattle.zw_layout.specs.Sizes.{bytes_for, integer_layout}
 use Rattle.zw_values.specs.Coercions.{peer_of_all}
-use Rattle.zw_values.specs.Operations as operation
-use Rattle.zw_values.specs.Operations.{Gives, And, Or, Extreme, given, OnAll}
+use Rattle.zw_values.specs.Applied.{Gives, applied}
+use Rattle.zw_typed.specs.Nodes.{And, Or}
 use Rattle.zw_typed.specs.Nodes.{TypedNode}
 use Rattle.zw_env.specs.Parts.{Next, Visit, VisitUnevaluated, Operation, Raise, Done, Halt, a_value, alone, is_lost}
 use Rattle.zw_typed.specs.ValueTypes.{HasWidths, IsValueOf, AreValuesOf}
@@ -25,7 +33,7 @@ use Rattle.zw_forms_scalar.specs.Operators.{is_integer}
 use Rattle.zw_forms_scalar.specs.Builtins.{can_truncate, can_bit_cast, can_cast, count_bits, count_type, whole_bytes, any_sized, abs_type, truth_number, number_part, size_part, align_part, bit_size_part, Builtin, AsType, TypeOf, SizeOf, AlignOf, BitSizeOf, Casts, OnOwn, InPeer, InPeers, InShift, Quota, builtins, builtin_in, takes, named_type, is_kept, as_rule, measure_rule, cast_rule, own_rule, peer_rule, shift_rule, all_then, types_of, all_integers, all_in, peer_part, in_peers, peers_due, quota_due, quota_rule, operand, builtin_on, builtin_rule}
 use Rattle.zw_forms_scalar.specs.ScalarRules.{scalar_rule}
 use Rattle.zw_sema.specs.Walk.{RunPart}
-use Rattle.zw_sema.proofs.OperationLemmas.{stays-two, stays-shift, stays-one, casts, measures, stays-wide, stays-cut, stays-count, AllAre, stays-all, stays-bit}
+use Rattle.zw_sema.proofs.OperationLemmas.{stays-division, stays-shift, stays-one, measures, stays-wide, int_cast, truncates, bit_cast, stays-cast, stays-wide-cast, stays-cut, stays-count, AllAre, stays-all, stays-bit}
 use Rattle.zw_sema.proofs.ScalarLemmas.{next-if, below-if, sound-append, named_type-wide, literal-sound, peer_of_all-wide, AllWide, StaysOnTwo, StaysShifted, arithmetic-sound, shifting-sound, amount-wide, plain_name-sound, named_part-sound, passed_on-sound, logic-sound, operator-sound}
 
 -- ---- what a type measures
@@ -86,7 +94,7 @@ as-sound ty value [] k = tt
 as-sound ty value (t ∷ []) (i, k) = named_type-wide t i
 as-sound ty value (t ∷ v ∷ more) (i, (j, k)) = next-if (is_lost v && not (is_kept (named_type t))) (Halt (Error 16)) (Done v) tt j
 
-abbrev pub StaysCast : ℕ → (TypeTree → TypeTree → Bool) → Type 0
+abbrev pub StaysCast : Operator → (TypeTree → TypeTree → Bool) → Type 0
 StaysCast name can = (from to : TypeTree) → HasWidths to → is_integer to ≡ true → can from to ≡ true → StaysIn name (from ∷ []) to
 
 both : (s t : Bool) → (s && t) ≡ true → (s ≡ true) × (t ≡ true)
@@ -94,7 +102,7 @@ both true true e = (refl, refl)
 both true false e = cc
 both false t e = cc
 
-cast-sound : (name : ℕ) (can : TypeTree → TypeTree → Bool) → StaysCast name can → (wanted : Option TypeTree) → IsSoundWish wanted → (operand : ℕ) (parts : List RunPart) → AreSound parts → IsSoundNext (cast_rule name can wanted operand parts)
+cast-sound : (name : Operator) (can : TypeTree → TypeTree → Bool) → StaysCast name can → (wanted : Option TypeTree) → IsSoundWish wanted → (operand : ℕ) (parts : List RunPart) → AreSound parts → IsSoundNext (cast_rule name can wanted operand parts)
 cast-sound name can stays None h operand parts k = tt
 cast-sound name can stays (Some to) h operand [] k = tt
 cast-sound name can stays (Some to) h operand (a ∷ []) (i, k) = by_test (is_integer to && can a.ty to) refl
@@ -104,35 +112,35 @@ cast-sound name can stays (Some to) h operand (a ∷ []) (i, k) = by_test (is_in
     by_test false e = tt
 cast-sound name can stays (Some to) h operand (a ∷ result ∷ more) (i, (r, k)) = r
 
-int_cast-stays : StaysCast number.INT_CAST can_cast
-int_cast-stays from (tree.IntType signed bits size) h e c = λ values i v is. stays-one operation.IntCast from signed bits size values i v is
-int_cast-stays from tree.ComptimeIntType h e c = λ values i v is. stays-wide operation.IntCast casts from values i v is
+int_cast-stays : StaysCast (family.Cast cast.IntCast) can_cast
+int_cast-stays from (tree.IntType signed bits size) h e c = λ values i v is. stays-cast cast.IntCast int_cast from signed bits size values i v is
+int_cast-stays from tree.ComptimeIntType h e c = λ values i v is. stays-wide-cast from values i v is
 int_cast-stays from _ h e c = cc
 
-truncate-stays : StaysCast number.TRUNCATE can_truncate
-truncate-stays from (tree.IntType signed bits size) h e c = λ values i v is. stays-one operation.Truncate from signed bits size values i v is
+truncate-stays : StaysCast (family.Cast cast.Truncate) can_truncate
+truncate-stays from (tree.IntType signed bits size) h e c = λ values i v is. stays-cast cast.Truncate truncates from signed bits size values i v is
 truncate-stays tree.ComptimeIntType tree.ComptimeIntType h e c = λ values i v is. stays-cut values i v is
 truncate-stays (tree.IntType true bits size) tree.ComptimeIntType h e c = cc
 truncate-stays (tree.IntType false bits size) tree.ComptimeIntType h e c = cc
 truncate-stays _ tree.ComptimeIntType h e c = cc
 truncate-stays from _ h e c = cc
 
-bit_cast-stays : StaysCast number.BIT_CAST can_bit_cast
-bit_cast-stays from (tree.IntType signed bits size) h e c = λ values i v is. stays-one operation.BitCast from signed bits size values i v is
+bit_cast-stays : StaysCast (family.Cast cast.BitCast) can_bit_cast
+bit_cast-stays from (tree.IntType signed bits size) h e c = λ values i v is. stays-cast cast.BitCast bit_cast from signed bits size values i v is
 bit_cast-stays (tree.IntType signed bits size) tree.ComptimeIntType h e c = cc
 bit_cast-stays _ tree.ComptimeIntType h e c = cc
 bit_cast-stays from _ h e c = cc
 
 -- ---- one operand, with a type of its own
 
-abbrev pub OwnStays : ℕ → TypeTree → Option TypeTree → Type 0
+abbrev pub OwnStays : Operator → TypeTree → Option TypeTree → Type 0
 OwnStays name ty None = Unit {0}
 OwnStays name ty (Some to) = HasWidths to × StaysIn name (ty ∷ []) to
 
-abbrev pub StaysOwn : ℕ → (TypeTree → Option TypeTree) → Type 0
+abbrev pub StaysOwn : Operator → (TypeTree → Option TypeTree) → Type 0
 StaysOwn name result_of = (ty : TypeTree) → HasWidths ty → OwnStays name ty (result_of ty)
 
-own-sound : (name : ℕ) (result_of : TypeTree → Option TypeTree) → StaysOwn name result_of → (operand : ℕ) (parts : List RunPart) → AreSound parts → IsSoundNext (own_rule name result_of operand parts)
+own-sound : (name : Operator) (result_of : TypeTree → Option TypeTree) → StaysOwn name result_of → (operand : ℕ) (parts : List RunPart) → AreSound parts → IsSoundNext (own_rule name result_of operand parts)
 own-sound name result_of stays operand [] k = tt
 own-sound name result_of stays operand (a ∷ []) (i, k) = by_result (result_of a.ty) (stays a.ty i.ty)
   where
@@ -156,50 +164,50 @@ count-few bits =
     below-if (nat_eq bits 0) 0 _ (omega arith) (below-if (nat_le bits 1) 1 _ (omega arith) (below-if (nat_le bits 3) 2 _ (omega arith) (below-if (nat_le bits 7) 3 _ (omega arith)
     (below-if (nat_le bits 15) 4 _ (omega arith) (below-if (nat_le bits 31) 5 _ (omega arith) (below-if (nat_le bits 63) 6 7 (omega arith) (omega arith)))))))
 
-clz-stays : StaysOwn number.CLZ count_type
-clz-stays (tree.IntType signed bits size) h = (count-few bits, λ values i v is. stays-count operation.LeadingZeros signed bits size (count_bits bits) (count-room bits h) values i v is)
+clz-stays : StaysOwn (family.Count count.Clz) count_type
+clz-stays (tree.IntType signed bits size) h = (count-few bits, λ values i v is. stays-count count.Clz signed bits size (count_bits bits) (count-room bits h) values i v is)
 clz-stays _ h = tt
 
-ctz-stays : StaysOwn number.CTZ count_type
-ctz-stays (tree.IntType signed bits size) h = (count-few bits, λ values i v is. stays-count operation.TrailingZeros signed bits size (count_bits bits) (count-room bits h) values i v is)
+ctz-stays : StaysOwn (family.Count count.Ctz) count_type
+ctz-stays (tree.IntType signed bits size) h = (count-few bits, λ values i v is. stays-count count.Ctz signed bits size (count_bits bits) (count-room bits h) values i v is)
 ctz-stays _ h = tt
 
-ones-stays : StaysOwn number.POP_COUNT count_type
-ones-stays (tree.IntType signed bits size) h = (count-few bits, λ values i v is. stays-count operation.Ones signed bits size (count_bits bits) (count-room bits h) values i v is)
+ones-stays : StaysOwn (family.Count count.PopCount) count_type
+ones-stays (tree.IntType signed bits size) h = (count-few bits, λ values i v is. stays-count count.PopCount signed bits size (count_bits bits) (count-room bits h) values i v is)
 ones-stays _ h = tt
 
-own-if : (name : ℕ) (ty : TypeTree) (t : Bool) (x y : Option TypeTree) → OwnStays name ty x → OwnStays name ty y → OwnStays name ty (if t then x else y)
+own-if : (name : Operator) (ty : TypeTree) (t : Bool) (x y : Option TypeTree) → OwnStays name ty x → OwnStays name ty y → OwnStays name ty (if t then x else y)
 own-if name ty true x y i j = i
 own-if name ty false x y i j = j
 
-bytes-stays : StaysOwn number.BYTE_SWAP whole_bytes
+bytes-stays : StaysOwn (family.Unary one.ByteSwap) whole_bytes
 bytes-stays (tree.IntType signed bits size) h =
-    own-if number.BYTE_SWAP (tree.IntType signed bits size) (nat_eq (bits % 8) 0) (Some (tree.IntType signed bits size)) None
-    (h, λ values i v is. stays-one operation.ByteSwap (tree.IntType signed bits size) signed bits size values i v is) tt
+    own-if (family.Unary one.ByteSwap) (tree.IntType signed bits size) (nat_eq (bits % 8) 0) (Some (tree.IntType signed bits size)) None
+    (h, λ values i v is. stays-one one.ByteSwap (tree.IntType signed bits size) signed bits size values i v is) tt
 bytes-stays _ h = tt
 
-reverse-stays : StaysOwn number.BIT_REVERSE any_sized
-reverse-stays (tree.IntType signed bits size) h = (h, λ values i v is. stays-one operation.BitReverse (tree.IntType signed bits size) signed bits size values i v is)
+reverse-stays : StaysOwn (family.Unary one.BitReverse) any_sized
+reverse-stays (tree.IntType signed bits size) h = (h, λ values i v is. stays-one one.BitReverse (tree.IntType signed bits size) signed bits size values i v is)
 reverse-stays _ h = tt
 
-abs-stays : StaysOwn number.ABS abs_type
-abs-stays (tree.IntType signed bits size) h = (h, λ values i v is. stays-one operation.Abs (tree.IntType signed bits size) false bits size values i v is)
-abs-stays tree.ComptimeIntType h = (tt, λ values i v is. stays-wide operation.Abs measures tree.ComptimeIntType values i v is)
+abs-stays : StaysOwn (family.Unary one.Abs) abs_type
+abs-stays (tree.IntType signed bits size) h = (h, λ values i v is. stays-one one.Abs (tree.IntType signed bits size) false bits size values i v is)
+abs-stays tree.ComptimeIntType h = (tt, λ values i v is. stays-wide one.Abs measures tree.ComptimeIntType values i v is)
 abs-stays _ h = tt
 
-truth-stays : StaysOwn number.INT_FROM_BOOL truth_number
+truth-stays : StaysOwn (family.Cast cast.IntFromBool) truth_number
 truth-stays tree.BoolType h = (omega arith, λ values i v is. stays-bit (tree.BoolType ∷ []) values i v is)
 truth-stays _ h = tt
 
 -- ---- two or more operands
 
-peer-sound : (name : ℕ) → StaysOnTwo name → (left right : ℕ) (parts : List RunPart) → AreSound parts → IsSoundNext (peer_rule name left right parts)
+peer-sound : (name : Operator) → StaysOnTwo name → (left right : ℕ) (parts : List RunPart) → AreSound parts → IsSoundNext (peer_rule name left right parts)
 peer-sound name stays left right [] k = tt
 peer-sound name stays left right (a ∷ []) k = tt
 peer-sound name stays left right (a ∷ b ∷ []) (i, (j, k)) = arithmetic-sound name stays a b i j
 peer-sound name stays left right (a ∷ b ∷ result ∷ more) (i, (j, (r, k))) = r
 
-shift-sound : (name : ℕ) → StaysShifted name → (left right : ℕ) (parts : List RunPart) → AreSound parts → IsSoundNext (shift_rule name left right parts)
+shift-sound : (name : Operator) → StaysShifted name → (left right : ℕ) (parts : List RunPart) → AreSound parts → IsSoundNext (shift_rule name left right parts)
 shift-sound name stays left right [] k = tt
 shift-sound name stays left right (a ∷ []) k = amount-wide a.ty
 shift-sound name stays left right (a ∷ b ∷ []) (i, (j, k)) = shifting-sound name stays a b i j
@@ -225,17 +233,17 @@ peer_part-sound (ty ∷ types) (h, k) = by_peer (peer_of_all ty types) (peer_of_
     by_peer (Some peer) w = record { ty = tt; known = w }
 
 -- the least and the greatest of several values of one type
-abbrev pub StaysAll : ℕ → Type 0
+abbrev pub StaysAll : Operator → Type 0
 StaysAll name = (ty : TypeTree) (types : List TypeTree) → AllAre ty types → StaysIn name types ty
 
-all-others : (op : Extreme) (ty : TypeTree) → ((z : ℤ) → IsValueOf ty (tree.NumberValue z) → ⊥) → (types : List TypeTree) → AllAre ty types → (values : List ValueTree) → AreValuesOf types values → (v : ValueTree) → given (OnAll op) types ty values ≡ Gives v → IsValueOf ty v
+all-others : (op : Extreme) (ty : TypeTree) → ((z : ℤ) → IsValueOf ty (tree.NumberValue z) → ⊥) → (types : List TypeTree) → AllAre ty types → (values : List ValueTree) → AreValuesOf types values → (v : ValueTree) → applied (family.Extreme op) types ty values ≡ Gives v → IsValueOf ty v
 all-others op ty never [] same [] k v e = cc
 all-others op ty never [] same (u ∷ values) k v e = absurd k
 all-others op ty never (t ∷ types) same [] k v e = absurd k
 all-others op ty never (t ∷ types) (is, same) (tree.NumberValue z ∷ values) (i, k) v e = absurd (never z (subst (λ (s : TypeTree). IsValueOf s (tree.NumberValue z)) is i))
 all-others op ty never (t ∷ types) same (_ ∷ values) k v e = cc
 
-all-stays : (op : Extreme) (ty : TypeTree) (types : List TypeTree) → AllAre ty types → (values : List ValueTree) → AreValuesOf types values → (v : ValueTree) → given (OnAll op) types ty values ≡ Gives v → IsValueOf ty v
+all-stays : (op : Extreme) (ty : TypeTree) (types : List TypeTree) → AllAre ty types → (values : List ValueTree) → AreValuesOf types values → (v : ValueTree) → applied (family.Extreme op) types ty values ≡ Gives v → IsValueOf ty v
 all-stays op (tree.IntType signed bits size) types same values k v e = stays-all op (tree.IntType signed bits size) (Sized signed bits) (λ u i. i) (λ u i. i) types same values k v e
 all-stays op tree.ComptimeIntType types same values k v e = stays-all op tree.ComptimeIntType Comptime (λ u i. i) (λ u i. i) types same values k v e
 all-stays op other types same values k v e = all-others op other (λ z i. i) types same values k v e
@@ -248,7 +256,7 @@ used-all : (ty : TypeTree) (parts : List RunPart) → AllAre ty (types_used (all
 used-all ty [] = tt
 used-all ty (part ∷ parts) = (refl, used-all ty parts)
 
-in_peers-sound : (name : ℕ) → StaysAll name → (parts : List RunPart) → AreSound parts → (types : List TypeTree) → AllWide types → IsSoundNext (in_peers name parts types)
+in_peers-sound : (name : Operator) → StaysAll name → (parts : List RunPart) → AreSound parts → (types : List TypeTree) → AllWide types → IsSoundNext (in_peers name parts types)
 in_peers-sound name stays parts k [] w = tt
 in_peers-sound name stays parts k (ty ∷ types) (h, w) = by_peer (peer_of_all ty types) (peer_of_all-wide ty types h w)
   where
@@ -256,7 +264,7 @@ in_peers-sound name stays parts k (ty ∷ types) (h, w) = by_peer (peer_of_all t
     by_peer None g = tt
     by_peer (Some peer) g = (g, (in-all peer g parts k, stays peer (types_used (all_in peer parts)) (used-all peer parts)))
 
-peers-sound : (name : ℕ) → StaysAll name → (parts : List RunPart) → AreSound parts → IsSoundNext (peers_due name parts)
+peers-sound : (name : Operator) → StaysAll name → (parts : List RunPart) → AreSound parts → IsSoundNext (peers_due name parts)
 peers-sound name stays parts k = next-if (all_integers parts) _ _ (in_peers-sound name stays parts k (types_of parts) (types-wide parts k)) tt
 
 -- ---- the quota
@@ -307,19 +315,19 @@ builtins-stay = (
                 (
                   truth-stays,
                   (
-                    (λ ty h values i v e. stays-two operation.DivTrunc ty h values i v e),
+                    (λ ty h values i v e. stays-division quotient.DivTrunc ty h values i v e),
                     (
-                      (λ ty h values i v e. stays-two operation.DivFloor ty h values i v e),
+                      (λ ty h values i v e. stays-division quotient.DivFloor ty h values i v e),
                       (
-                        (λ ty h values i v e. stays-two operation.DivExact ty h values i v e),
+                        (λ ty h values i v e. stays-division quotient.DivExact ty h values i v e),
                         (
-                          (λ ty h values i v e. stays-two operation.RemTrunc ty h values i v e),
+                          (λ ty h values i v e. stays-division quotient.RemTrunc ty h values i v e),
                           (
-                            (λ ty h values i v e. stays-two operation.Mod ty h values i v e),
+                            (λ ty h values i v e. stays-division quotient.Mod ty h values i v e),
                             (
-                              (λ ty amount values i v e. stays-shift operation.ShlExact ty amount values i v e),
+                              (λ ty amount values i v e. stays-shift shift.ShlExact ty amount values i v e),
                               (
-                                (λ ty amount values i v e. stays-shift operation.ShrExact ty amount values i v e),
+                                (λ ty amount values i v e. stays-shift shift.ShrExact ty amount values i v e),
                                 (
                                   clz-stays,
                                   (
@@ -333,9 +341,9 @@ builtins-stay = (
                                           (
                                             abs-stays,
                                             (
-                                              (λ ty types same values k v e. all-stays operation.Least ty types same values k v e),
+                                              (λ ty types same values k v e. all-stays extreme.Min ty types same values k v e),
                                               (
-                                                (λ ty types same values k v e. all-stays operation.Greatest ty types same values k v e),
+                                                (λ ty types same values k v e. all-stays extreme.Max ty types same values k v e),
                                                 (tt, tt),
                                               ),
                                             ),

@@ -12,13 +12,14 @@ use Rattle.zw_num.proofs.WrappedLemmas.{in_from_test}
 use Rattle.zw_tree.specs.Trees.{Forest}
 use Rattle.zw_tree.specs.Numbering.{first_root}
 use Rattle.zw_tree.specs.declared.ast.Entry.{Entry}
+use Rattle.zw_num.specs.declared.operator.Operator.{Operator}
 use Rattle.zw_types.specs.TypeTrees as tree
 use Rattle.zw_types.specs.TypeTrees.{TypeTree, ValueTree}
 use Rattle.zw_values.specs.ObjectStore.{Stage, at_compile_time, at_run_time}
 use Rattle.zw_values.specs.Sameness.{is_same}
 use Rattle.zw_values.specs.Coercions.{has_all, has_no_value, Applies, Refuses, IsForOthers, known_row, integers_row, integer_row, coercion}
-use Rattle.zw_values.specs.Operations as operation
-use Rattle.zw_values.specs.Operations.{Outcome, applied}
+use Rattle.zw_values.specs.Applied as operation
+use Rattle.zw_values.specs.Applied.{Outcome, applied}
 use Rattle.zw_values.proofs.SameLemmas.{is_same-true}
 use Rattle.zw_typed.specs.Nodes.{Op, Become, Argument, Operate, TypedNode, node, no_nodes, node_and, nodes_from}
 use Rattle.zw_env.specs.Counting.{Counters}
@@ -155,7 +156,7 @@ computed-sound ty h (operation.Panics cause) stays = tt
 computed-sound ty h operation.IsWild stays = tt
 computed-sound ty h (operation.Passes limit) stays = tt
 
-operated-sound : (name : ℕ) (ty : TypeTree) → HasWidths ty → (parts : List RunPart) → AreSound parts → StaysIn name (types_of parts) ty → IsSoundResult (operated name ty parts)
+operated-sound : (name : Operator) (ty : TypeTree) → HasWidths ty → (parts : List RunPart) → AreSound parts → StaysIn name (types_of parts) ty → IsSoundResult (operated name ty parts)
 operated-sound name ty h parts k stays = by_known (all_known parts) refl
   where
     by_known : (all : Option (List ValueTree)) → all_known parts ≡ all →

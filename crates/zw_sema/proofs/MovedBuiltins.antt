@@ -6,10 +6,11 @@ use Rattle.zw_base.specs.declared.stop.StopKind.TheVariants.{Error}
 use Rattle.zw_tree.specs.declared.ast.Entry.{Entry}
 use Rattle.zw_tree.specs.declared.kind.NodeKind.{NodeKind}
 use Rattle.zw_tree.specs.declared.kind.NodeKind.TheVariants as kind
+use Rattle.zw_num.specs.declared.operator.Operator.{Operator}
 use Rattle.zw_types.specs.TypeTrees as tree
 use Rattle.zw_types.specs.TypeTrees.{TypeTree, ValueTree}
 use Rattle.zw_values.specs.Coercions.{peer_of_all}
-use Rattle.zw_values.specs.Operations.{And, Or}
+use Rattle.zw_typed.specs.Nodes.{And, Or}
 use Rattle.zw_typed.specs.Nodes.{TypedNode}
 use Rattle.zw_env.specs.Parts.{Operand, Next, Visit, VisitUnevaluated, Operation, Raise, Done, Halt, a_value, in_type, alone, is_lost}
 use Rattle.zw_forms_scalar.specs.Operators.{is_integer, logic_rule}
@@ -64,7 +65,7 @@ measure-moves : (to : ℕ → ℕ) (f : TypeTree → Next TypedNode) → AllMeas
 measure-moves to f each ty [] = refl
 measure-moves to f each ty (t ∷ more) = on_type-moves to f each t
 
-cast-moves : (to : ℕ → ℕ) (name : ℕ) (can : TypeTree → TypeTree → Bool) (wanted : Option TypeTree) (child : ℕ) (parts : List RunPart) →
+cast-moves : (to : ℕ → ℕ) (name : Operator) (can : TypeTree → TypeTree → Bool) (wanted : Option TypeTree) (child : ℕ) (parts : List RunPart) →
     cast_rule name can wanted (to child) (moved_parts to parts) ≡ moved_next to (cast_rule name can wanted child parts)
 cast-moves to name can None child parts = refl
 cast-moves to name can (Some ty) child [] = refl
@@ -72,7 +73,7 @@ cast-moves to name can (Some ty) child (a ∷ []) =
     if-moves to (is_integer ty && can a.ty ty) (Operation name ty (alone a ∷ [])) (Halt (Error 20)) (Operation name ty (alone (moved_part to a) ∷ [])) (Halt (Error 20)) refl refl
 cast-moves to name can (Some ty) child (a ∷ result ∷ more) = refl
 
-own-moves : (to : ℕ → ℕ) (name : ℕ) (result_of : TypeTree → Option TypeTree) (child : ℕ) (parts : List RunPart) → own_rule name result_of (to child) (moved_parts to parts) ≡ moved_next to (own_rule name result_of child parts)
+own-moves : (to : ℕ → ℕ) (name : Operator) (result_of : TypeTree → Option TypeTree) (child : ℕ) (parts : List RunPart) → own_rule name result_of (to child) (moved_parts to parts) ≡ moved_next to (own_rule name result_of child parts)
 own-moves to name result_of child [] = refl
 own-moves to name result_of child (a ∷ []) = by_found (result_of a.ty)
   where
@@ -81,13 +82,13 @@ own-moves to name result_of child (a ∷ []) = by_found (result_of a.ty)
     by_found (Some ty) = refl
 own-moves to name result_of child (a ∷ result ∷ more) = refl
 
-peer-moves : (to : ℕ → ℕ) (name left right : ℕ) (parts : List RunPart) → peer_rule name (to left) (to right) (moved_parts to parts) ≡ moved_next to (peer_rule name left right parts)
+peer-moves : (to : ℕ → ℕ) (name : Operator) (left right : ℕ) (parts : List RunPart) → peer_rule name (to left) (to right) (moved_parts to parts) ≡ moved_next to (peer_rule name left right parts)
 peer-moves to name left right [] = refl
 peer-moves to name left right (a ∷ []) = refl
 peer-moves to name left right (a ∷ b ∷ []) = arithmetic-moves to name a b
 peer-moves to name left right (a ∷ b ∷ result ∷ more) = refl
 
-shift-moves : (to : ℕ → ℕ) (name left right : ℕ) (parts : List RunPart) → shift_rule name (to left) (to right) (moved_parts to parts) ≡ moved_next to (shift_rule name left right parts)
+shift-moves : (to : ℕ → ℕ) (name : Operator) (left right : ℕ) (parts : List RunPart) → shift_rule name (to left) (to right) (moved_parts to parts) ≡ moved_next to (shift_rule name left right parts)
 shift-moves to name left right [] = refl
 shift-moves to name left right (a ∷ []) = refl
 shift-moves to name left right (a ∷ b ∷ []) = shifting-moves to name a b
@@ -132,7 +133,7 @@ peer_part-stays to (ty ∷ types) = by_peer (peer_of_all ty types)
 type_of-moves : (to : ℕ → ℕ) → DuesMove to (λ all. peer_part (types_of all)) (λ all. peer_part (types_of all))
 type_of-moves to parts = ap (λ (types : List TypeTree). peer_part {N = TypedNode} types) (types-stay to parts) ∙ peer_part-stays to (types_of parts)
 
-in_peers-moves : (to : ℕ → ℕ) (name : ℕ) (parts : List RunPart) (types : List TypeTree) → in_peers name (moved_parts to parts) types ≡ moved_next to (in_peers name parts types)
+in_peers-moves : (to : ℕ → ℕ) (name : Operator) (parts : List RunPart) (types : List TypeTree) → in_peers name (moved_parts to parts) types ≡ moved_next to (in_peers name parts types)
 in_peers-moves to name parts [] = refl
 in_peers-moves to name parts (ty ∷ types) = by_peer (peer_of_all ty types)
   where
@@ -141,7 +142,7 @@ in_peers-moves to name parts (ty ∷ types) = by_peer (peer_of_all ty types)
     by_peer None = refl
     by_peer (Some peer) = ap (λ (os : List (Operand TypedNode)). Operation name peer os) (all_in-moves to peer parts)
 
-peers-move : (to : ℕ → ℕ) (name : ℕ) → DuesMove to (λ all. peers_due name all) (λ all. peers_due name all)
+peers-move : (to : ℕ → ℕ) (name : Operator) → DuesMove to (λ all. peers_due name all) (λ all. peers_due name all)
 peers-move to name parts =
     ap (λ (fine : Bool). if fine then in_peers name (moved_parts to parts) (types_of (moved_parts to parts)) else Halt (Error 20)) (all_integers-stays to parts)
     ∙ ap (λ (types : List TypeTree). if all_integers parts then in_peers name (moved_parts to parts) types else Halt (Error 20)) (types-stay to parts)

@@ -6,9 +6,9 @@ use Rattle.zw_session.specs.Sessions.{Scalar, Number, Truth, HostEvent, Call, Ca
 use Rattle.zw_session.specs.Sessions as sessions
 use Rattle.zw_types.specs.TypeTrees as tree
 use Rattle.zw_types.specs.TypeTrees.{TypeTree, ValueTree}
-use Rattle.zw_values.specs.Operations as operation
-use Rattle.zw_values.specs.Operations.{Logic, And, Or, applied}
-use Rattle.zw_typed.specs.Nodes.{Import, Constant, Argument, Operate, Become, Decide, CallHost, InOrder, Return, TypedNode, TypedNodes, node, no_nodes, node_and, type_of, types_of}
+use Rattle.zw_values.specs.Applied as operation
+use Rattle.zw_values.specs.Applied.{applied}
+use Rattle.zw_typed.specs.Nodes.{Logic, And, Or, Import, Constant, Argument, Operate, Become, Decide, CallHost, InOrder, Return, TypedNode, TypedNodes, node, no_nodes, node_and, type_of, types_of}
 use Rattle.zw_typed.specs.NodeMeanings.{End, Gives, Leaves, Stops, Evaluated, gives, behind, goes_on, and_then, scalar_of, scalars_and, scalars_of, value_from, next_reply, host_called, outcome_value, argument_value, decided, evaluated, all_evaluated, first_evaluated, deciding}
 use Rattle.zw_typed.specs.NodeMeanings as meaning
 use Rattle.zw_typed.specs.Exports.{Exported, export_named, value_of, values_of, returned, call_end, outcome_of, called, exports_machine}

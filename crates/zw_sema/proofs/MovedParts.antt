@@ -6,13 +6,14 @@ use Rattle.std.proofs.lemmas.Bool.{eqb-true, eq-eqb}
 use Rattle.zw_base.specs.declared.stop.StopKind.{StopKind}
 use Rattle.zw_base.specs.declared.stop.StopKind.TheVariants.{Error}
 use Rattle.zw_num.specs.declared.int_ty.IntTy.{IntTy}
+use Rattle.zw_num.specs.declared.operator.Operator.{Operator}
 use Rattle.zw_types.specs.TypeTrees as tree
 use Rattle.zw_types.specs.TypeTrees.{TypeTree, ValueTree}
 use Rattle.zw_values.specs.ObjectStore.{Stage, at_compile_time, at_run_time}
 use Rattle.zw_values.specs.Sameness.{is_same}
 use Rattle.zw_values.specs.Coercions.{integer_of, has_all, has_no_value, Row, Applies, Refuses, IsForOthers, known_row, integers_row, coercion}
-use Rattle.zw_values.specs.Operations as operation
-use Rattle.zw_values.specs.Operations.{Outcome, applied}
+use Rattle.zw_values.specs.Applied as operation
+use Rattle.zw_values.specs.Applied.{Outcome, applied}
 use Rattle.zw_typed.specs.Nodes.{Op, Constant, Argument, Operate, Become, InOrder, TypedNode, TypedNodes, node, no_nodes, node_and, nodes_from}
 use Rattle.zw_env.specs.Parts.{Operand, a_value, a_node, is_lost}
 use Rattle.zw_sema.specs.Walk.{RunPart, Progress, UnderWay, Analysed, Bound, State, Out, Found, Stopped, TooSmall, node_of, become, coerced, used_as, part_and, operand_parts, known_and, all_known, types_of, nodes_of, computed, operated, emitted, bound_to, progress_of, argument_bound, wanted_part, mentioned, result_part, quota_raised}
@@ -160,11 +161,11 @@ abbrev pub done : RunPart → Result RunPart StopKind
 done part = Ok part
 
 -- what an operation gives, where these values are known of the parts
-abbrev pub operated_on : ℕ → TypeTree → List TypeTree → TypedNodes → Option (List ValueTree) → Result RunPart StopKind
+abbrev pub operated_on : Operator → TypeTree → List TypeTree → TypedNodes → Option (List ValueTree) → Result RunPart StopKind
 operated_on name ty types nodes all =
     elim all [ Some values ↦ computed ty (applied name types ty values) | None ↦ Ok (a_node ty (node (Operate name) ty nodes)) ]
 
-pub operated-moves : (to : ℕ → ℕ) (name : ℕ) (ty : TypeTree) (parts : List RunPart) → operated name ty (moved_parts to parts) ≡ moved_result to (operated name ty parts)
+pub operated-moves : (to : ℕ → ℕ) (name : Operator) (ty : TypeTree) (parts : List RunPart) → operated name ty (moved_parts to parts) ≡ moved_result to (operated name ty parts)
 operated-moves to name ty parts =
     ap (λ (types : List TypeTree). operated_on name ty types (nodes_from (nodes_of (moved_parts to parts))) (all_known (moved_parts to parts))) (types-stay to parts)
     ∙ ap (λ (nodes : TypedNodes). operated_on name ty (types_of parts) nodes (all_known (moved_parts to parts))) (nodes-move to parts)

@@ -8,10 +8,11 @@ use Rattle.zw_num.specs.Arithmetic.{is_in}
 use Rattle.zw_token.specs.Names.{is_sized_name}
 use Rattle.zw_token.specs.Numbers.{decimal_value}
 use Rattle.zw_tree.specs.declared.kind.NodeKind.{NodeKind}
+use Rattle.zw_num.specs.declared.operator.Operator.{Operator}
 use Rattle.zw_types.specs.TypeTrees as tree
 use Rattle.zw_types.specs.TypeTrees.{TypeTree, ValueTree}
 use Rattle.zw_values.specs.Coercions.{peer_of}
-use Rattle.zw_values.specs.Operations.{Logic, And, Or}
+use Rattle.zw_typed.specs.Nodes.{Logic, And, Or}
 use Rattle.zw_typed.specs.Nodes.{TypedNode, Decide}
 use Rattle.zw_env.specs.Parts.{Operand, Next, Visit, VisitKnown, VisitUnevaluated, Operation, Emit, Lookup, Bind, Returns, Raise, Done, Halt, HaltAt, a_value, alone, is_lost, is_comptime_only}
 use Rattle.zw_env.specs.Parts as next
@@ -147,16 +148,16 @@ passed-moves to wanted inside (part ∷ more) = refl
 
 -- ---- operators
 
-in_peer-moves : (to : ℕ → ℕ) (name : ℕ) (a b : RunPart) (peer : Option TypeTree) → in_peer name (moved_part to a) (moved_part to b) peer ≡ moved_next to (in_peer name a b peer)
+in_peer-moves : (to : ℕ → ℕ) (name : Operator) (a b : RunPart) (peer : Option TypeTree) → in_peer name (moved_part to a) (moved_part to b) peer ≡ moved_next to (in_peer name a b peer)
 in_peer-moves to name a b None = refl
 in_peer-moves to name a b (Some ty) = refl
 
-pub arithmetic-moves : (to : ℕ → ℕ) (name : ℕ) (a b : RunPart) → arithmetic name (moved_part to a) (moved_part to b) ≡ moved_next to (arithmetic name a b)
+pub arithmetic-moves : (to : ℕ → ℕ) (name : Operator) (a b : RunPart) → arithmetic name (moved_part to a) (moved_part to b) ≡ moved_next to (arithmetic name a b)
 arithmetic-moves to name a b =
     if-moves to (is_integer a.ty && is_integer b.ty) (in_peer name a b (peer_of a.ty b.ty)) (Halt (Error 20)) (in_peer name (moved_part to a) (moved_part to b) (peer_of a.ty b.ty)) (Halt (Error 20))
     (in_peer-moves to name a b (peer_of a.ty b.ty)) refl
 
-division_in-moves : (to : ℕ → ℕ) (name : ℕ) (a b : RunPart) (peer : Option TypeTree) → division_in name (moved_part to a) (moved_part to b) peer ≡ moved_next to (division_in name a b peer)
+division_in-moves : (to : ℕ → ℕ) (name : Operator) (a b : RunPart) (peer : Option TypeTree) → division_in name (moved_part to a) (moved_part to b) peer ≡ moved_next to (division_in name a b peer)
 division_in-moves to name a b None = refl
 division_in-moves to name a b (Some ty) =
     ap (λ (hollow : Bool). if is_unsigned ty then (if hollow then Halt (Error 21) else own) else (if known_is is_natural (moved_known to a.known) && known_is is_positive (moved_known to b.known) then own else Halt (Error 20))) (known_is-stays to is_zero b.known)
@@ -170,30 +171,30 @@ division_in-moves to name a b (Some ty) =
     own : Next TypedNode
     own = in_peer name (moved_part to a) (moved_part to b) (Some ty)
 
-division-moves : (to : ℕ → ℕ) (name : ℕ) (a b : RunPart) → division name (moved_part to a) (moved_part to b) ≡ moved_next to (division name a b)
+division-moves : (to : ℕ → ℕ) (name : Operator) (a b : RunPart) → division name (moved_part to a) (moved_part to b) ≡ moved_next to (division name a b)
 division-moves to name a b =
     if-moves to (is_integer a.ty && is_integer b.ty) (division_in name a b (peer_of a.ty b.ty)) (Halt (Error 20)) (division_in name (moved_part to a) (moved_part to b) (peer_of a.ty b.ty)) (Halt (Error 20))
     (division_in-moves to name a b (peer_of a.ty b.ty)) refl
 
-shift_by-moves : (to : ℕ → ℕ) (name : ℕ) (a b : RunPart) → shift_by name (moved_part to a) (moved_part to b) ≡ moved_next to (shift_by name a b)
+shift_by-moves : (to : ℕ → ℕ) (name : Operator) (a b : RunPart) → shift_by name (moved_part to a) (moved_part to b) ≡ moved_next to (shift_by name a b)
 shift_by-moves to name a b =
     ap (λ (there : Bool). if is_comptime_int a.ty && not there then Halt (Error 16) else Operation name a.ty (alone (moved_part to a) ∷ alone (moved_part to b) ∷ [])) (some-stays to b.known)
     ∙ if-moves to (is_comptime_int a.ty && not (is_some b.known)) (Halt (Error 16)) (Operation name a.ty (alone a ∷ alone b ∷ [])) (Halt (Error 16)) (Operation name a.ty (alone (moved_part to a) ∷ alone (moved_part to b) ∷ [])) refl refl
 
-pub shifting-moves : (to : ℕ → ℕ) (name : ℕ) (a b : RunPart) → shifting name (moved_part to a) (moved_part to b) ≡ moved_next to (shifting name a b)
+pub shifting-moves : (to : ℕ → ℕ) (name : Operator) (a b : RunPart) → shifting name (moved_part to a) (moved_part to b) ≡ moved_next to (shifting name a b)
 shifting-moves to name a b =
     if-moves to (is_integer a.ty && is_integer b.ty) (shift_by name a b) (Halt (Error 20)) (shift_by name (moved_part to a) (moved_part to b)) (Halt (Error 20)) (shift_by-moves to name a b) refl
 
-saturating-moves : (to : ℕ → ℕ) (name : ℕ) (a b : RunPart) → saturating_shift name (moved_part to a) (moved_part to b) ≡ moved_next to (saturating_shift name a b)
+saturating-moves : (to : ℕ → ℕ) (name : Operator) (a b : RunPart) → saturating_shift name (moved_part to a) (moved_part to b) ≡ moved_next to (saturating_shift name a b)
 saturating-moves to name a b =
     ap (λ (fine : Bool). if is_integer a.ty && (is_unsigned b.ty || (is_comptime_int b.ty && fine)) then shift_by name (moved_part to a) (moved_part to b) else Halt (Error 20)) (known_is-stays to is_natural b.known)
     ∙ if-moves to (is_integer a.ty && is_saturating_amount b) (shift_by name a b) (Halt (Error 20)) (shift_by name (moved_part to a) (moved_part to b)) (Halt (Error 20)) (shift_by-moves to name a b) refl
 
-ordering-moves : (to : ℕ → ℕ) (name : ℕ) (a b : RunPart) → ordering name (moved_part to a) (moved_part to b) ≡ moved_next to (ordering name a b)
+ordering-moves : (to : ℕ → ℕ) (name : Operator) (a b : RunPart) → ordering name (moved_part to a) (moved_part to b) ≡ moved_next to (ordering name a b)
 ordering-moves to name a b =
     if-moves to (is_integer a.ty && is_integer b.ty) (compared name a b) (Halt (Error 20)) (compared name (moved_part to a) (moved_part to b)) (Halt (Error 20)) refl refl
 
-equality-moves : (to : ℕ → ℕ) (name : ℕ) (a b : RunPart) → equality name (moved_part to a) (moved_part to b) ≡ moved_next to (equality name a b)
+equality-moves : (to : ℕ → ℕ) (name : Operator) (a b : RunPart) → equality name (moved_part to a) (moved_part to b) ≡ moved_next to (equality name a b)
 equality-moves to name a b =
     if-moves to (are_alike a.ty b.ty) (compared name a b) refused (compared name (moved_part to a) (moved_part to b)) refused refl
     (if-stays to (has_equality a.ty && has_equality b.ty) (Halt (Error 14)) (Halt (Error 20)) refl refl)
@@ -201,7 +202,7 @@ equality-moves to name a b =
     refused : Next TypedNode
     refused = if has_equality a.ty && has_equality b.ty then Halt (Error 14) else Halt (Error 20)
 
-operands-move : (to : ℕ → ℕ) (family : Family) (name : ℕ) (a b : RunPart) → on_operands family name (moved_part to a) (moved_part to b) ≡ moved_next to (on_operands family name a b)
+operands-move : (to : ℕ → ℕ) (family : Family) (name : Operator) (a b : RunPart) → on_operands family name (moved_part to a) (moved_part to b) ≡ moved_next to (on_operands family name a b)
 operands-move to Arithmetic name a b = arithmetic-moves to name a b
 operands-move to Division name a b = division-moves to name a b
 operands-move to Shifting name a b = shifting-moves to name a b
@@ -213,7 +214,7 @@ wanted-stays : (to : ℕ → ℕ) (family : Family) (a : RunPart) → right_want
 wanted-stays to Shifting a = refl
 wanted-stays to _ a = refl
 
-binary-moves : (to : ℕ → ℕ) (family : Family) (name left right : ℕ) (parts : List RunPart) → binary_rule family name (to left) (to right) (moved_parts to parts) ≡ moved_next to (binary_rule family name left right parts)
+binary-moves : (to : ℕ → ℕ) (family : Family) (name : Operator) (left right : ℕ) (parts : List RunPart) → binary_rule family name (to left) (to right) (moved_parts to parts) ≡ moved_next to (binary_rule family name left right parts)
 binary-moves to family name left right [] = refl
 binary-moves to family name left right (a ∷ []) = ap (λ (wanted : Option TypeTree). Visit (to right) wanted) (wanted-stays to family a)
 binary-moves to family name left right (a ∷ b ∷ []) = operands-move to family name a b
@@ -245,7 +246,7 @@ logic-moves to op left right (a ∷ b ∷ []) =
     if-moves to (is_truth b.ty) (after_both op a b) (Halt (Error 20)) (after_both op (moved_part to a) (moved_part to b)) (Halt (Error 20)) (both-moves to op a b) refl
 logic-moves to op left right (a ∷ b ∷ result ∷ more) = refl
 
-unary-moves : (to : ℕ → ℕ) (name : ℕ) (is : TypeTree → Bool) (child : ℕ) (parts : List RunPart) → unary_rule name is (to child) (moved_parts to parts) ≡ moved_next to (unary_rule name is child parts)
+unary-moves : (to : ℕ → ℕ) (name : Operator) (is : TypeTree → Bool) (child : ℕ) (parts : List RunPart) → unary_rule name is (to child) (moved_parts to parts) ≡ moved_next to (unary_rule name is child parts)
 unary-moves to name is child [] = refl
 unary-moves to name is child (a ∷ []) = if-moves to (is a.ty) (Operation name a.ty (alone a ∷ [])) (Halt (Error 20)) (Operation name a.ty (alone (moved_part to a) ∷ [])) (Halt (Error 20)) refl refl
 unary-moves to name is child (a ∷ result ∷ more) = refl
@@ -267,11 +268,11 @@ operator-moves to root kind operands parts = by_binary (binary_operator kind)
     second : operand (map to operands) 1 ≡ to (operand operands 1)
     second = operand-moves to root operands 1
 
-    by_unary : (found : Option (ℕ × (TypeTree → Bool))) → unary_or_none found (map to operands) (moved_parts to parts) ≡ moved_next to (unary_or_none found operands parts)
+    by_unary : (found : Option (Operator × (TypeTree → Bool))) → unary_or_none found (map to operands) (moved_parts to parts) ≡ moved_next to (unary_or_none found operands parts)
     by_unary None = refl
     by_unary (Some (name, is)) = ap (λ (child : ℕ). unary_rule name is child (moved_parts to parts)) first ∙ unary-moves to name is (operand operands 0) parts
 
-    by_binary : (found : Option (Family × ℕ)) →
+    by_binary : (found : Option (Family × Operator)) →
         (elim found [ Some pair ↦ binary_rule pair.0 pair.1 (operand (map to operands) 0) (operand (map to operands) 1) (moved_parts to parts) | None ↦ unary_or_none (unary_operator kind) (map to operands) (moved_parts to parts) ])
         ≡ moved_next to (elim found [ Some pair ↦ binary_rule pair.0 pair.1 (operand operands 0) (operand operands 1) parts | None ↦ unary_or_none (unary_operator kind) operands parts ])
     by_binary None = by_unary (unary_operator kind)

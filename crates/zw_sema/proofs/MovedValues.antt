@@ -5,11 +5,24 @@ use Rattle.zw_num.specs.declared.int_ty.IntTy.{IntTy}
 use Rattle.zw_num.specs.declared.int_ty.IntTy.TheVariants.{Sized, Comptime}
 use Rattle.zw_num.specs.declared.num_fault.NumFault.{NumFault}
 use Rattle.zw_num.specs.declared.num_fault.NumFault.TheVariants as fault
+use Rattle.zw_num.specs.declared.operator.Cast.{Cast}
+use Rattle.zw_num.specs.declared.operator.Cast.TheVariants as cast
+use Rattle.zw_num.specs.declared.operator.Comparison.{Comparison}
+use Rattle.zw_num.specs.declared.operator.Comparison.TheVariants as order
+use Rattle.zw_num.specs.declared.operator.Count.{Count}
+use Rattle.zw_num.specs.declared.operator.Extreme.{Extreme}
+use Rattle.zw_num.specs.declared.operator.Logic.{Logic}
+use Rattle.zw_num.specs.declared.operator.Logic.TheVariants as logic
+use Rattle.zw_num.specs.declared.operator.Measure.{Measure}
+use Rattle.zw_num.specs.declared.operator.Measure.TheVariants as measure
+use Rattle.zw_num.specs.declared.operator.Operator.{Operator}
+use Rattle.zw_num.specs.declared.operator.Operator.TheVariants as family
+use Rattle.zw_num.specs.Meanings.{arithmetic, division, bitwise, shift, extreme, unary, converted}
 use Rattle.zw_types.specs.TypeTrees as tree
 use Rattle.zw_types.specs.TypeTrees.{TypeTree, ValueTree}
 use Rattle.zw_values.specs.Sameness.{is_same}
 use Rattle.zw_values.specs.Coercions.{integer_of}
-use Rattle.zw_values.specs.Operations.{Outcome, Gives, Panics, IsWild, Passes, outcome_of_fault, outcome_of, Binary, binary, Shift, shift, Comparison, Equal, NotEqual, Unary, unary, Count, binary_on_values, shift_on_values, unary_on_values, equality, compared_values, count_on_value, Extreme, extreme, extreme_from, extreme_of, negated, Logic, And, Or, joined, int_from_bool, bit_size, number_or_wild, bit_size_of, Operation, OnTwo, OnShifted, OnOne, OnBits, OnAll, OnOrder, OnTruths, Negation, TruthNumber, BitSize, Coerced, on_one, on_two, in_integers, first_integers, given, operation_of, applied}
+use Rattle.zw_values.specs.Applied.{Outcome, Gives, Panics, IsWild, Passes, outcome_of_fault, outcome_of, of_two_numbers, of_number, equality, compared_values, count_on_value, extreme_from, extreme_of, negated, both, either, int_from_bool, bit_size, number_or_wild, bit_size_of, on_one, on_two, in_integers, first_integers, on_integers, on_integer, cast_applied, logic_applied, measured, applied}
 use Rattle.zw_typed.specs.Nodes.{Op, Constant, TypedNode, TypedNodes, node, no_nodes, node_and}
 use Rattle.zw_sema.specs.Walk.{RunPart}
 
@@ -88,27 +101,35 @@ integers-moves : (to : ℕ → ℕ) (ty : Option IntTy) (f g : IntTy → Outcome
 integers-moves to None f g each = refl
 integers-moves to (Some ty) f g each = each ty
 
-binary-moves : (to : ℕ → ℕ) (op : Binary) (ty : IntTy) → MovesTwo to (binary_on_values op ty)
-binary-moves to op ty (tree.NumberValue a) (tree.NumberValue b) = outcome-stays to ty (binary op ty a b)
-binary-moves to op ty (tree.NumberValue a) _ = refl
-binary-moves to op ty _ b = refl
+pair-moves : (to : ℕ → ℕ) (ty : IntTy) (meaning : ℤ → ℤ → Result ℤ NumFault) → MovesTwo to (of_two_numbers ty meaning)
+pair-moves to ty meaning (tree.NumberValue a) (tree.NumberValue b) = outcome-stays to ty (meaning a b)
+pair-moves to ty meaning (tree.NumberValue a) _ = refl
+pair-moves to ty meaning _ b = refl
 
-shift-moves : (to : ℕ → ℕ) (op : Shift) (ty : IntTy) → MovesTwo to (shift_on_values op ty)
-shift-moves to op ty (tree.NumberValue a) (tree.NumberValue b) = outcome-stays to ty (shift op ty a b)
-shift-moves to op ty (tree.NumberValue a) _ = refl
-shift-moves to op ty _ b = refl
+number-moves : (to : ℕ → ℕ) (ty : IntTy) (meaning : ℤ → Result ℤ NumFault) → MovesOne to (of_number ty meaning)
+number-moves to ty meaning (tree.NumberValue a) = outcome-stays to ty (meaning a)
+number-moves to ty meaning _ = refl
 
-unary-moves : (to : ℕ → ℕ) (op : Unary) (own ty : IntTy) → MovesOne to (unary_on_values op own ty)
-unary-moves to op own ty (tree.NumberValue a) = outcome-stays to ty (unary op own ty a)
-unary-moves to op own ty _ = refl
+two-move : (to : ℕ → ℕ) (meaning : IntTy → ℤ → ℤ → Result ℤ NumFault) (ty : TypeTree) (values : List ValueTree) → on_integers meaning ty (moved_values to values) ≡ moved_outcome to (on_integers meaning ty values)
+two-move to meaning ty values =
+    integers-moves to (integer_of ty) (λ own. on_two (of_two_numbers own (meaning own)) values) (λ own. on_two (of_two_numbers own (meaning own)) (moved_values to values))
+    (λ own. on_two-moves to (of_two_numbers own (meaning own)) (pair-moves to own (meaning own)) values)
+
+one-moves : (to : ℕ → ℕ) (meaning : IntTy → IntTy → ℤ → Result ℤ NumFault) (from : List TypeTree) (ty : TypeTree) (values : List ValueTree) →
+    on_integer meaning from ty (moved_values to values) ≡ moved_outcome to (on_integer meaning from ty values)
+one-moves to meaning from ty values =
+    integers-moves to (first_integers from) (λ own. in_integers (integer_of ty) (λ its. on_one (of_number its (meaning own its)) values))
+    (λ own. in_integers (integer_of ty) (λ its. on_one (of_number its (meaning own its)) (moved_values to values)))
+    (λ own. integers-moves to (integer_of ty) (λ its. on_one (of_number its (meaning own its)) values) (λ its. on_one (of_number its (meaning own its)) (moved_values to values))
+    (λ its. on_one-moves to (of_number its (meaning own its)) (number-moves to its (meaning own its)) values))
 
 count-moves : (to : ℕ → ℕ) (count : Count) (own : IntTy) → MovesOne to (count_on_value count own)
 count-moves to count own (tree.NumberValue a) = refl
 count-moves to count own _ = refl
 
 equality-stays : (to : ℕ → ℕ) (op : Comparison) (same : Bool) → equality op same ≡ moved_outcome to (equality op same)
-equality-stays to Equal same = refl
-equality-stays to NotEqual same = refl
+equality-stays to order.Equal same = refl
+equality-stays to order.NotEqual same = refl
 equality-stays to _ same = refl
 
 compared-moves : (to : ℕ → ℕ) (op : Comparison) → MovesTwo to (compared_values op)
@@ -130,13 +151,15 @@ extreme-moves to op [] = refl
 extreme-moves to op (tree.NumberValue a ∷ more) = extreme_from-moves to op a more
 extreme-moves to op (_ ∷ more) = refl
 
-joined-moves : (to : ℕ → ℕ) (op : Logic) → MovesTwo to (joined op)
-joined-moves to And (tree.TruthValue true) b = refl
-joined-moves to And (tree.TruthValue false) b = refl
-joined-moves to Or (tree.TruthValue true) b = refl
-joined-moves to Or (tree.TruthValue false) b = refl
-joined-moves to And _ b = refl
-joined-moves to Or _ b = refl
+both-moves : (to : ℕ → ℕ) → MovesTwo to both
+both-moves to (tree.TruthValue true) b = refl
+both-moves to (tree.TruthValue false) b = refl
+both-moves to _ b = refl
+
+either-moves : (to : ℕ → ℕ) → MovesTwo to either
+either-moves to (tree.TruthValue true) b = refl
+either-moves to (tree.TruthValue false) b = refl
+either-moves to _ b = refl
 
 negated-moves : (to : ℕ → ℕ) → MovesOne to negated
 negated-moves to (tree.TruthValue b) = refl
@@ -154,36 +177,36 @@ bits-moves : (to : ℕ → ℕ) → MovesOne to bit_size_of
 bits-moves to (tree.TypeValue ty) = number-stays to (bit_size ty)
 bits-moves to _ = refl
 
-given-moves : (to : ℕ → ℕ) (operation : Operation) (from : List TypeTree) (ty : TypeTree) (values : List ValueTree) →
-    given operation from ty (moved_values to values) ≡ moved_outcome to (given operation from ty values)
-given-moves to (OnTwo op) from ty values =
-    integers-moves to (integer_of ty) (λ own. on_two (binary_on_values op own) values) (λ own. on_two (binary_on_values op own) (moved_values to values))
-    (λ own. on_two-moves to (binary_on_values op own) (binary-moves to op own) values)
-given-moves to (OnShifted op) from ty values =
-    integers-moves to (integer_of ty) (λ own. on_two (shift_on_values op own) values) (λ own. on_two (shift_on_values op own) (moved_values to values))
-    (λ own. on_two-moves to (shift_on_values op own) (shift-moves to op own) values)
-given-moves to (OnOne op) from ty values =
-    integers-moves to (first_integers from) (λ own. in_integers (integer_of ty) (λ its. on_one (unary_on_values op own its) values))
-    (λ own. in_integers (integer_of ty) (λ its. on_one (unary_on_values op own its) (moved_values to values)))
-    (λ own. integers-moves to (integer_of ty) (λ its. on_one (unary_on_values op own its) values) (λ its. on_one (unary_on_values op own its) (moved_values to values))
-    (λ its. on_one-moves to (unary_on_values op own its) (unary-moves to op own its) values))
-given-moves to (OnBits count) from ty values =
-    integers-moves to (first_integers from) (λ own. on_one (count_on_value count own) values) (λ own. on_one (count_on_value count own) (moved_values to values))
-    (λ own. on_one-moves to (count_on_value count own) (count-moves to count own) values)
-given-moves to (OnAll op) from ty values = extreme-moves to op values
-given-moves to (OnOrder op) from ty values = on_two-moves to (compared_values op) (compared-moves to op) values
-given-moves to (OnTruths op) from ty values = on_two-moves to (joined op) (joined-moves to op) values
-given-moves to Negation from ty values = on_one-moves to negated (negated-moves to) values
-given-moves to TruthNumber from ty values = on_one-moves to int_from_bool (truth-moves to) values
-given-moves to BitSize from ty values = on_one-moves to bit_size_of (bits-moves to) values
-given-moves to Coerced from ty values = on_two-moves to (λ of v. Gives v) (λ of v. refl) values
+cast-moves : (to : ℕ → ℕ) (op : Cast) (from : List TypeTree) (ty : TypeTree) (values : List ValueTree) →
+    cast_applied op from ty (moved_values to values) ≡ moved_outcome to (cast_applied op from ty values)
+cast-moves to cast.As from ty values = on_two-moves to (λ of v. Gives v) (λ of v. refl) values
+cast-moves to cast.IntFromBool from ty values = on_one-moves to int_from_bool (truth-moves to) values
+cast-moves to cast.IntCast from ty values = one-moves to (λ own. converted cast.IntCast) from ty values
+cast-moves to cast.Truncate from ty values = one-moves to (λ own. converted cast.Truncate) from ty values
+cast-moves to cast.BitCast from ty values = one-moves to (λ own. converted cast.BitCast) from ty values
 
-pub applied-moves : (to : ℕ → ℕ) (name : ℕ) (from : List TypeTree) (ty : TypeTree) (values : List ValueTree) →
-    applied name from ty (moved_values to values) ≡ moved_outcome to (applied name from ty values)
-applied-moves to name from ty values = by_operation (operation_of name)
-  where
-    by_operation : (found : Option Operation) →
-        (elim found [ None ↦ IsWild | Some operation ↦ given operation from ty (moved_values to values) ])
-        ≡ moved_outcome to (elim found [ None ↦ IsWild | Some operation ↦ given operation from ty values ])
-    by_operation None = refl
-    by_operation (Some operation) = given-moves to operation from ty values
+logic-moves : (to : ℕ → ℕ) (op : Logic) (values : List ValueTree) → logic_applied op (moved_values to values) ≡ moved_outcome to (logic_applied op values)
+logic-moves to logic.And values = on_two-moves to both (both-moves to) values
+logic-moves to logic.Or values = on_two-moves to either (either-moves to) values
+logic-moves to logic.Not values = on_one-moves to negated (negated-moves to) values
+
+measure-moves : (to : ℕ → ℕ) (op : Measure) (values : List ValueTree) → measured op (moved_values to values) ≡ moved_outcome to (measured op values)
+measure-moves to measure.BitSizeOf values = on_one-moves to bit_size_of (bits-moves to) values
+measure-moves to measure.SizeOf values = refl
+measure-moves to measure.AlignOf values = refl
+
+pub applied-moves : (to : ℕ → ℕ) (op : Operator) (from : List TypeTree) (ty : TypeTree) (values : List ValueTree) →
+    applied op from ty (moved_values to values) ≡ moved_outcome to (applied op from ty values)
+applied-moves to (family.Arithmetic op) from ty values = two-move to (arithmetic op) ty values
+applied-moves to (family.Division op) from ty values = two-move to (division op) ty values
+applied-moves to (family.Bitwise op) from ty values = two-move to (λ own a b. Ok (bitwise op a b)) ty values
+applied-moves to (family.Shift op) from ty values = two-move to (shift op) ty values
+applied-moves to (family.Comparison op) from ty values = on_two-moves to (compared_values op) (compared-moves to op) values
+applied-moves to (family.Extreme op) from ty values = extreme-moves to op values
+applied-moves to (family.Unary op) from ty values = one-moves to (unary op) from ty values
+applied-moves to (family.Count op) from ty values =
+    integers-moves to (first_integers from) (λ own. on_one (count_on_value op own) values) (λ own. on_one (count_on_value op own) (moved_values to values))
+    (λ own. on_one-moves to (count_on_value op own) (count-moves to op own) values)
+applied-moves to (family.Cast op) from ty values = cast-moves to op from ty values
+applied-moves to (family.Logic op) from ty values = logic-moves to op values
+applied-moves to (family.Measure op) from ty values = measure-moves to op values

@@ -3,13 +3,20 @@
 use Rattle.std.proofs.Common.{◌≡◌, refl, ℕ, zero, suc, inl, inr, Bool, true, false, List, [], ◌∷◌, ◌++◌, Option, Some, None, ap, sym, subst, ◌∙◌}
 use Rattle.std.specs.Prelude.{◌&&◌, ◌||◌, Result, Ok, Err, All, slice_get, slice_index_or, if◌then◌else◌}
 use Rattle.std.proofs.lemmas.List.Elements.{All-head, All-tail, All-nil}
+use Rattle.zw_num.specs.declared.operator.Cast.{Cast}
+use Rattle.zw_num.specs.declared.operator.Cast.TheVariants as cast
+use Rattle.zw_num.specs.declared.operator.Comparison.{Comparison}
+use Rattle.zw_num.specs.declared.operator.Logic.{Logic}
+use Rattle.zw_num.specs.declared.operator.Logic.TheVariants as logic
+use Rattle.zw_num.specs.declared.operator.Operator.{Operator}
+use Rattle.zw_num.specs.declared.operator.Operator.TheVariants as family
+use Rattle.zw_num.specs.declared.operator.Unary.{Unary}
+use Rattle.zw_num.specs.declared.operator.Unary.TheVariants as one
 use Rattle.zw_types.specs.TypeTrees as tree
 use Rattle.zw_types.specs.TypeTrees.{TypeTree, ValueTree}
 use Rattle.zw_types.specs.Readings.{type_at}
 use Rattle.zw_values.specs.Sameness.{is_same}
 use Rattle.zw_values.specs.Coercions.{Applies, Refuses, IsForOthers, coercion}
-use Rattle.zw_values.specs.Operations as operation
-use Rattle.zw_values.specs.Operations.{Operation, Unary, Comparison, OnTwo, OnShifted, OnOne, OnBits, OnAll, OnOrder, Negation, TruthNumber, operation_of}
 use Rattle.zw_values.proofs.SameLemmas.{is_same-true}
 use Rattle.zw_typed.specs.declared.program.NodeOp.{NodeOp}
 use Rattle.zw_typed.specs.declared.program.NodeOp.TheVariants as op
@@ -21,7 +28,7 @@ use Rattle.zw_typed.specs.declared.program.Program.{Program}
 use Rattle.zw_typed.specs.Nodes.{Op, Constant, Argument, Operate, Become, Decide, CallHost, InOrder, Return, TypedNode, TypedNodes, node, no_nodes, node_and, type_of, types_of}
 use Rattle.zw_typed.specs.ValueTypes.{IsValueOf}
 use Rattle.zw_typed.specs.HostTypes.{is_shown_type, is_result_type, all_types}
-use Rattle.zw_typed.specs.NodeTypes.{IsSized, IsCutTo, HasSameBits, IsMagnitude, UnaryFits, CountFits, OrderFits, OperandsFit, NamedFits, IsStatement, KidsFit}
+use Rattle.zw_typed.specs.NodeTypes.{IsSized, IsCutTo, HasSameBits, IsMagnitude, UnaryFits, CountFits, OrderFits, OperandsFit, IsStatement, KidsFit, CastFits, LogicFits}
 use Rattle.zw_typed.specs.Exports.{Exported}
 use Rattle.zw_typed.specs.Programs.{types_at, import_or, op_read, no_node, kids_among, node_read, nodes_read, body_read, function_read, export_read, exports_read, exports_of, AreNodes, IsBody, IsFunc, IsHostFunc, IsShown, IsExport, IsWellFormed}
 use Rattle.zw_sema.proofs.MovedValues.{moved_value, moved_op, moved_node, moved_nodes}
@@ -77,15 +84,12 @@ same-plain : (from ty : TypeTree) → from ≡ ty → IsPlain ty → IsPlain fro
 same-plain from ty e plain = subst (λ (t : TypeTree). IsPlain t) (sym e) plain
 
 unary-plain : (op : Unary) (from ty : TypeTree) → UnaryFits op from ty → IsPlain ty → IsPlain from
-unary-plain operation.Neg from ty (h, e) plain = same-plain from ty e plain
-unary-plain operation.NegWrap from ty (h, e) plain = same-plain from ty e plain
-unary-plain operation.BitNot from ty (h, e) plain = same-plain from ty e plain
-unary-plain operation.IntCast from ty (h, e) plain = sized-plain from h
-unary-plain operation.Truncate from ty h plain = cut-plain from ty h
-unary-plain operation.BitCast from ty h plain = bits-plain from ty h
-unary-plain operation.ByteSwap from ty (h, e) plain = same-plain from ty e plain
-unary-plain operation.BitReverse from ty (h, e) plain = same-plain from ty e plain
-unary-plain operation.Abs from ty h plain = magnitude-plain from ty h
+unary-plain one.Neg from ty (h, e) plain = same-plain from ty e plain
+unary-plain one.NegWrap from ty (h, e) plain = same-plain from ty e plain
+unary-plain one.BitNot from ty (h, e) plain = same-plain from ty e plain
+unary-plain one.ByteSwap from ty (h, e) plain = same-plain from ty e plain
+unary-plain one.BitReverse from ty (h, e) plain = same-plain from ty e plain
+unary-plain one.Abs from ty h plain = magnitude-plain from ty h
 
 order-plain : (op : Comparison) (a b : TypeTree) → OrderFits op a b → IsPlain a × IsPlain b
 order-plain op (tree.IntType signed bits size) (tree.IntType signed' bits' size') h = (tt, tt)
@@ -101,20 +105,29 @@ all-plain : (ty : TypeTree) → IsPlain ty → (kids : List TypeTree) → All (�
 all-plain ty plain [] h = tt
 all-plain ty plain (a ∷ kids) h = (same-plain a ty (All-head (λ t. t ≡ ty) a kids h) plain, all-plain ty plain kids (All-tail (λ t. t ≡ ty) a kids h))
 
-operands-plain : (operation : Operation) (kids : List TypeTree) (ty : TypeTree) → OperandsFit operation kids ty → IsPlain ty → ArePlain kids
-operands-plain (OnTwo op) kids ty (h, e) plain = are-plain kids (ty ∷ ty ∷ []) e (plain, (plain, tt))
-operands-plain (OnShifted op) (a ∷ b ∷ []) ty (h, e, k) plain = (same-plain a ty e plain, (sized-plain b k, tt))
-operands-plain (OnOne op) (a ∷ []) ty h plain = (unary-plain op a ty h plain, tt)
-operands-plain (OnBits count) (a ∷ []) ty h plain = (count-plain a ty h, tt)
-operands-plain (OnAll op) kids ty (h, some, all) plain = all-plain ty plain kids all
-operands-plain (OnOrder op) (a ∷ b ∷ []) ty (e, h) plain = ((order-plain op a b h).0, ((order-plain op a b h).1, tt))
-operands-plain Negation kids ty (e, is) plain = are-plain kids (tree.BoolType ∷ []) is (tt, tt)
-operands-plain TruthNumber kids ty (e, is) plain = are-plain kids (tree.BoolType ∷ []) is (tt, tt)
-operands-plain _ kids ty h plain = absurd h
+cast-plain : (op : Cast) (kids : List TypeTree) (ty : TypeTree) → CastFits op kids ty → ArePlain kids
+cast-plain cast.IntFromBool kids ty (e, is) = are-plain kids (tree.BoolType ∷ []) is (tt, tt)
+cast-plain cast.IntCast (a ∷ []) ty (h, k) = (sized-plain a h, tt)
+cast-plain cast.Truncate (a ∷ []) ty h = (cut-plain a ty h, tt)
+cast-plain cast.BitCast (a ∷ []) ty h = (bits-plain a ty h, tt)
+cast-plain _ kids ty h = absurd h
 
-named-plain : (found : Option Operation) (kids : List TypeTree) (ty : TypeTree) → NamedFits found kids ty → IsPlain ty → ArePlain kids
-named-plain None kids ty h plain = absurd h
-named-plain (Some operation) kids ty h plain = operands-plain operation kids ty h plain
+logic-plain : (op : Logic) (kids : List TypeTree) (ty : TypeTree) → LogicFits op kids ty → ArePlain kids
+logic-plain logic.Not kids ty (e, is) = are-plain kids (tree.BoolType ∷ []) is (tt, tt)
+logic-plain _ kids ty h = absurd h
+
+operands-plain : (op : Operator) (kids : List TypeTree) (ty : TypeTree) → OperandsFit op kids ty → IsPlain ty → ArePlain kids
+operands-plain (family.Arithmetic op) kids ty (h, e) plain = are-plain kids (ty ∷ ty ∷ []) e (plain, (plain, tt))
+operands-plain (family.Division op) kids ty (h, e) plain = are-plain kids (ty ∷ ty ∷ []) e (plain, (plain, tt))
+operands-plain (family.Bitwise op) kids ty (h, e) plain = are-plain kids (ty ∷ ty ∷ []) e (plain, (plain, tt))
+operands-plain (family.Shift op) (a ∷ b ∷ []) ty (h, e, k) plain = (same-plain a ty e plain, (sized-plain b k, tt))
+operands-plain (family.Unary op) (a ∷ []) ty h plain = (unary-plain op a ty h plain, tt)
+operands-plain (family.Count op) (a ∷ []) ty h plain = (count-plain a ty h, tt)
+operands-plain (family.Extreme op) kids ty (h, some, all) plain = all-plain ty plain kids all
+operands-plain (family.Comparison op) (a ∷ b ∷ []) ty (e, h) plain = ((order-plain op a b h).0, ((order-plain op a b h).1, tt))
+operands-plain (family.Cast op) kids ty h plain = cast-plain op kids ty h
+operands-plain (family.Logic op) kids ty h plain = logic-plain op kids ty h
+operands-plain _ kids ty h plain = absurd h
 
 -- a function becomes of its own type alone
 becomes-plain : (a ty : TypeTree) (row : ℕ) → coercion a None ty ≡ Ok row → IsPlain ty → IsPlain a
@@ -142,7 +155,7 @@ CallsPlain _ = Unit {0}
 kids-plain : (f : Exported) → IsPlain f.result → (op : Op) (ty : TypeTree) (kids : List TypeTree) → KidsFit f op ty kids → CallsPlain op → IsPlain ty → ArePlain kids
 kids-plain f result (Constant value) ty kids (h, e) call plain = are-plain kids [] e tt
 kids-plain f result (Argument k) ty kids (h, e) call plain = are-plain kids [] e tt
-kids-plain f result (Operate name) ty kids h call plain = named-plain (operation_of name) kids ty h plain
+kids-plain f result (Operate op) ty kids h call plain = operands-plain op kids ty h plain
 kids-plain f result Become ty (a ∷ []) (row, e) call plain = (becomes-plain a ty row e plain, tt)
 kids-plain f result Become ty _ h call plain = absurd h
 kids-plain f result (Decide logic) ty kids (h, e) call plain = are-plain kids (tree.BoolType ∷ tree.BoolType ∷ []) e (tt, (tt, tt))

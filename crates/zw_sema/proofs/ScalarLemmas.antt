@@ -5,7 +5,15 @@ use Rattle.std.specs.Str.{bytes_eq}
 use Rattle.zw_base.specs.declared.stop.StopKind.TheVariants.{Error, Limit}
 use Rattle.zw_num.specs.declared.int_ty.IntTy.{IntTy}
 use Rattle.zw_num.specs.declared.int_ty.IntTy.TheVariants.{Sized, Comptime}
-use Rattle.zw_num.specs.declared.op.TheConstants as number
+use Rattle.zw_num.specs.declared.operator.Arithmetic.TheVariants as sum
+use Rattle.zw_num.specs.declared.operator.Bitwise.TheVariants as bits
+use Rattle.zw_num.specs.declared.operator.Comparison.TheVariants as order
+use Rattle.zw_num.specs.declared.operator.Division.TheVariants as quotient
+use Rattle.zw_num.specs.declared.operator.Logic.TheVariants as logic
+use Rattle.zw_num.specs.declared.operator.Shift.TheVariants as shift
+use Rattle.zw_num.specs.declared.operator.Unary.TheVariants as one
+use Rattle.zw_num.specs.declared.operator.Operator.{Operator}
+use Rattle.zw_num.specs.declared.operator.Operator.TheVariants as family
 use Rattle.zw_num.specs.Arithmetic.{is_in}
 use Rattle.zw_num.proofs.WrappedLemmas.{in_from_test}
 use Rattle.zw_token.specs.Names.{is_sized_name}
@@ -16,9 +24,7 @@ use Rattle.zw_types.specs.TypeTrees as tree
 use Rattle.zw_types.specs.TypeTrees.{TypeTree, ValueTree}
 use Rattle.zw_values.specs.Sameness.{is_same}
 use Rattle.zw_values.specs.Coercions.{integer_of, has_all, is_no_return, is_undefined_type, integer_peer, peer_of, peer_of_all}
-use Rattle.zw_values.specs.Operations as operation
-use Rattle.zw_values.specs.Operations.{Logic, And, Or}
-use Rattle.zw_typed.specs.Nodes.{TypedNode}
+use Rattle.zw_typed.specs.Nodes.{Logic, And, Or, TypedNode}
 use Rattle.zw_env.specs.Parts.{Next, Operation, Done, Halt, a_value, alone}
 use Rattle.zw_typed.specs.ValueTypes.{HasWidths, IsValueOf, IsKnownOf}
 use Rattle.zw_env.specs.SoundParts.{IsSound, AreSound, IsSoundWish, StaysIn, IsSoundNext}
@@ -27,7 +33,7 @@ use Rattle.zw_forms_scalar.specs.Operators.{is_some, is_integer, is_truth, is_un
 use Rattle.zw_forms_scalar.specs.Builtins.{named_type, operand}
 use Rattle.zw_forms_scalar.specs.ScalarRules.{literal, named_part, plain_name, passed_on, unary_or_none, operator_rule}
 use Rattle.zw_sema.specs.Walk.{RunPart}
-use Rattle.zw_sema.proofs.OperationLemmas.{stays-two, stays-shift, stays-one, negates, stays-wide, stays-order, stays-negation}
+use Rattle.zw_sema.proofs.OperationLemmas.{stays-arithmetic, stays-division, stays-bitwise, stays-shift, stays-one, negates, stays-wide, stays-order, stays-negation}
 
 -- ---- choices
 
@@ -176,54 +182,54 @@ peer_of_all-wide a (b ∷ more) h (g, k) = by_peer (peer_of a b) (peer_of-wide a
 
 -- ---- operators
 
-abbrev pub StaysOnTwo : ℕ → Type 0
+abbrev pub StaysOnTwo : Operator → Type 0
 StaysOnTwo name = (ty : TypeTree) → HasWidths ty → StaysIn name (ty ∷ ty ∷ []) ty
 
-abbrev pub StaysShifted : ℕ → Type 0
+abbrev pub StaysShifted : Operator → Type 0
 StaysShifted name = (ty amount : TypeTree) → StaysIn name (ty ∷ amount ∷ []) ty
 
-abbrev pub StaysTrue : ℕ → Type 0
+abbrev pub StaysTrue : Operator → Type 0
 StaysTrue name = (from : List TypeTree) → StaysIn name from tree.BoolType
 
-in_peer-sound : (name : ℕ) → StaysOnTwo name → (a b : RunPart) → IsSound a → IsSound b → (peer : Option TypeTree) → IsSoundWish peer → IsSoundNext (in_peer name a b peer)
+in_peer-sound : (name : Operator) → StaysOnTwo name → (a b : RunPart) → IsSound a → IsSound b → (peer : Option TypeTree) → IsSoundWish peer → IsSoundNext (in_peer name a b peer)
 in_peer-sound name stays a b i j None h = tt
 in_peer-sound name stays a b i j (Some ty) h = (h, (((i, h), ((j, h), tt)), stays ty h))
 
-pub arithmetic-sound : (name : ℕ) → StaysOnTwo name → (a b : RunPart) → IsSound a → IsSound b → IsSoundNext (arithmetic name a b)
+pub arithmetic-sound : (name : Operator) → StaysOnTwo name → (a b : RunPart) → IsSound a → IsSound b → IsSoundNext (arithmetic name a b)
 arithmetic-sound name stays a b i j =
     next-if (is_integer a.ty && is_integer b.ty) (in_peer name a b (peer_of a.ty b.ty)) (Halt (Error 20)) (in_peer-sound name stays a b i j (peer_of a.ty b.ty) (peer_of-wide a.ty b.ty i.ty j.ty)) tt
 
-division_in-sound : (name : ℕ) → StaysOnTwo name → (a b : RunPart) → IsSound a → IsSound b → (peer : Option TypeTree) → IsSoundWish peer → IsSoundNext (division_in name a b peer)
+division_in-sound : (name : Operator) → StaysOnTwo name → (a b : RunPart) → IsSound a → IsSound b → (peer : Option TypeTree) → IsSoundWish peer → IsSoundNext (division_in name a b peer)
 division_in-sound name stays a b i j None h = tt
 division_in-sound name stays a b i j (Some ty) h =
     next-if (is_unsigned ty) _ _ (next-if (known_is is_zero b.known) _ _ tt (in_peer-sound name stays a b i j (Some ty) h))
     (next-if (known_is is_natural a.known && known_is is_positive b.known) _ _ (in_peer-sound name stays a b i j (Some ty) h) tt)
 
-division-sound : (name : ℕ) → StaysOnTwo name → (a b : RunPart) → IsSound a → IsSound b → IsSoundNext (division name a b)
+division-sound : (name : Operator) → StaysOnTwo name → (a b : RunPart) → IsSound a → IsSound b → IsSoundNext (division name a b)
 division-sound name stays a b i j =
     next-if (is_integer a.ty && is_integer b.ty) _ _ (division_in-sound name stays a b i j (peer_of a.ty b.ty) (peer_of-wide a.ty b.ty i.ty j.ty)) tt
 
-shift_by-sound : (name : ℕ) → StaysShifted name → (a b : RunPart) → IsSound a → IsSound b → IsSoundNext (shift_by name a b)
+shift_by-sound : (name : Operator) → StaysShifted name → (a b : RunPart) → IsSound a → IsSound b → IsSoundNext (shift_by name a b)
 shift_by-sound name stays a b i j = next-if (is_comptime_int a.ty && not (is_some b.known)) _ _ tt (i.ty, (((i, i.ty), ((j, j.ty), tt)), stays a.ty b.ty))
 
-pub shifting-sound : (name : ℕ) → StaysShifted name → (a b : RunPart) → IsSound a → IsSound b → IsSoundNext (shifting name a b)
+pub shifting-sound : (name : Operator) → StaysShifted name → (a b : RunPart) → IsSound a → IsSound b → IsSoundNext (shifting name a b)
 shifting-sound name stays a b i j = next-if (is_integer a.ty && is_integer b.ty) _ _ (shift_by-sound name stays a b i j) tt
 
-saturating-sound : (name : ℕ) → StaysShifted name → (a b : RunPart) → IsSound a → IsSound b → IsSoundNext (saturating_shift name a b)
+saturating-sound : (name : Operator) → StaysShifted name → (a b : RunPart) → IsSound a → IsSound b → IsSoundNext (saturating_shift name a b)
 saturating-sound name stays a b i j = next-if (is_integer a.ty && is_saturating_amount b) _ _ (shift_by-sound name stays a b i j) tt
 
-compared-sound : (name : ℕ) → StaysTrue name → (a b : RunPart) → IsSound a → IsSound b → IsSoundNext (compared name a b)
+compared-sound : (name : Operator) → StaysTrue name → (a b : RunPart) → IsSound a → IsSound b → IsSoundNext (compared name a b)
 compared-sound name stays a b i j = (tt, (((i, i.ty), ((j, j.ty), tt)), stays (a.ty ∷ b.ty ∷ [])))
 
-ordering-sound : (name : ℕ) → StaysTrue name → (a b : RunPart) → IsSound a → IsSound b → IsSoundNext (ordering name a b)
+ordering-sound : (name : Operator) → StaysTrue name → (a b : RunPart) → IsSound a → IsSound b → IsSoundNext (ordering name a b)
 ordering-sound name stays a b i j = next-if (is_integer a.ty && is_integer b.ty) _ _ (compared-sound name stays a b i j) tt
 
-equality-sound : (name : ℕ) → StaysTrue name → (a b : RunPart) → IsSound a → IsSound b → IsSoundNext (equality name a b)
+equality-sound : (name : Operator) → StaysTrue name → (a b : RunPart) → IsSound a → IsSound b → IsSoundNext (equality name a b)
 equality-sound name stays a b i j =
     next-if (are_alike a.ty b.ty) _ _ (compared-sound name stays a b i j) (next-if (has_equality a.ty && has_equality b.ty) (Halt (Error 14)) (Halt (Error 20)) tt tt)
 
 -- what an operator of a family owes
-abbrev pub FamilyStays : Family → ℕ → Type 0
+abbrev pub FamilyStays : Family → Operator → Type 0
 FamilyStays Arithmetic name = StaysOnTwo name
 FamilyStays Division name = StaysOnTwo name
 FamilyStays Shifting name = StaysShifted name
@@ -231,7 +237,7 @@ FamilyStays SaturatingShift name = StaysShifted name
 FamilyStays Ordering name = StaysTrue name
 FamilyStays Equality name = StaysTrue name
 
-operands-sound : (family : Family) (name : ℕ) → FamilyStays family name → (a b : RunPart) → IsSound a → IsSound b → IsSoundNext (on_operands family name a b)
+operands-sound : (family : Family) (name : Operator) → FamilyStays family name → (a b : RunPart) → IsSound a → IsSound b → IsSoundNext (on_operands family name a b)
 operands-sound Arithmetic name stays a b i j = arithmetic-sound name stays a b i j
 operands-sound Division name stays a b i j = division-sound name stays a b i j
 operands-sound Shifting name stays a b i j = shifting-sound name stays a b i j
@@ -261,40 +267,40 @@ right-wide SaturatingShift a = tt
 right-wide Ordering a = tt
 right-wide Equality a = tt
 
-binary-sound : (family : Family) (name : ℕ) → FamilyStays family name → (left right : ℕ) (parts : List RunPart) → AreSound parts → IsSoundNext (binary_rule family name left right parts)
+binary-sound : (family : Family) (name : Operator) → FamilyStays family name → (left right : ℕ) (parts : List RunPart) → AreSound parts → IsSoundNext (binary_rule family name left right parts)
 binary-sound family name stays left right [] k = tt
 binary-sound family name stays left right (a ∷ []) k = right-wide family a
 binary-sound family name stays left right (a ∷ b ∷ []) (i, (j, k)) = operands-sound family name stays a b i j
 binary-sound family name stays left right (a ∷ b ∷ result ∷ more) (i, (j, (r, k))) = r
 
-abbrev pub BinaryStays : Option (Family × ℕ) → Type 0
+abbrev pub BinaryStays : Option (Family × Operator) → Type 0
 BinaryStays None = Unit {0}
 BinaryStays (Some found) = FamilyStays found.0 found.1
 
 binary-stays : (k : NodeKind) → BinaryStays (binary_operator k)
-binary-stays kind.Add = λ ty h values i v e. stays-two operation.Add ty h values i v e
-binary-stays kind.Subtract = λ ty h values i v e. stays-two operation.Sub ty h values i v e
-binary-stays kind.Multiply = λ ty h values i v e. stays-two operation.Mul ty h values i v e
-binary-stays kind.AddWrap = λ ty h values i v e. stays-two operation.AddWrap ty h values i v e
-binary-stays kind.SubtractWrap = λ ty h values i v e. stays-two operation.SubWrap ty h values i v e
-binary-stays kind.MultiplyWrap = λ ty h values i v e. stays-two operation.MulWrap ty h values i v e
-binary-stays kind.AddSaturate = λ ty h values i v e. stays-two operation.AddSat ty h values i v e
-binary-stays kind.SubtractSaturate = λ ty h values i v e. stays-two operation.SubSat ty h values i v e
-binary-stays kind.MultiplySaturate = λ ty h values i v e. stays-two operation.MulSat ty h values i v e
-binary-stays kind.BitAnd = λ ty h values i v e. stays-two operation.BitAnd ty h values i v e
-binary-stays kind.BitOr = λ ty h values i v e. stays-two operation.BitOr ty h values i v e
-binary-stays kind.BitXor = λ ty h values i v e. stays-two operation.BitXor ty h values i v e
-binary-stays kind.Divide = λ ty h values i v e. stays-two operation.Div ty h values i v e
-binary-stays kind.Remainder = λ ty h values i v e. stays-two operation.Rem ty h values i v e
-binary-stays kind.ShiftLeft = λ ty amount values i v e. stays-shift operation.Shl ty amount values i v e
-binary-stays kind.ShiftRight = λ ty amount values i v e. stays-shift operation.Shr ty amount values i v e
-binary-stays kind.ShiftLeftSaturate = λ ty amount values i v e. stays-shift operation.ShlSat ty amount values i v e
-binary-stays kind.Less = λ from values i v e. stays-order operation.Less from values i v e
-binary-stays kind.LessOrEqual = λ from values i v e. stays-order operation.LessOrEqual from values i v e
-binary-stays kind.Greater = λ from values i v e. stays-order operation.Greater from values i v e
-binary-stays kind.GreaterOrEqual = λ from values i v e. stays-order operation.GreaterOrEqual from values i v e
-binary-stays kind.Equal = λ from values i v e. stays-order operation.Equal from values i v e
-binary-stays kind.NotEqual = λ from values i v e. stays-order operation.NotEqual from values i v e
+binary-stays kind.Add = λ ty h values i v e. stays-arithmetic sum.Add ty h values i v e
+binary-stays kind.Subtract = λ ty h values i v e. stays-arithmetic sum.Sub ty h values i v e
+binary-stays kind.Multiply = λ ty h values i v e. stays-arithmetic sum.Mul ty h values i v e
+binary-stays kind.AddWrap = λ ty h values i v e. stays-arithmetic sum.AddWrap ty h values i v e
+binary-stays kind.SubtractWrap = λ ty h values i v e. stays-arithmetic sum.SubWrap ty h values i v e
+binary-stays kind.MultiplyWrap = λ ty h values i v e. stays-arithmetic sum.MulWrap ty h values i v e
+binary-stays kind.AddSaturate = λ ty h values i v e. stays-arithmetic sum.AddSat ty h values i v e
+binary-stays kind.SubtractSaturate = λ ty h values i v e. stays-arithmetic sum.SubSat ty h values i v e
+binary-stays kind.MultiplySaturate = λ ty h values i v e. stays-arithmetic sum.MulSat ty h values i v e
+binary-stays kind.BitAnd = λ ty h values i v e. stays-bitwise bits.And ty h values i v e
+binary-stays kind.BitOr = λ ty h values i v e. stays-bitwise bits.Or ty h values i v e
+binary-stays kind.BitXor = λ ty h values i v e. stays-bitwise bits.Xor ty h values i v e
+binary-stays kind.Divide = λ ty h values i v e. stays-division quotient.Div ty h values i v e
+binary-stays kind.Remainder = λ ty h values i v e. stays-division quotient.Rem ty h values i v e
+binary-stays kind.ShiftLeft = λ ty amount values i v e. stays-shift shift.Shl ty amount values i v e
+binary-stays kind.ShiftRight = λ ty amount values i v e. stays-shift shift.Shr ty amount values i v e
+binary-stays kind.ShiftLeftSaturate = λ ty amount values i v e. stays-shift shift.ShlSat ty amount values i v e
+binary-stays kind.Less = λ from values i v e. stays-order order.Less from values i v e
+binary-stays kind.LessOrEqual = λ from values i v e. stays-order order.LessOrEqual from values i v e
+binary-stays kind.Greater = λ from values i v e. stays-order order.Greater from values i v e
+binary-stays kind.GreaterOrEqual = λ from values i v e. stays-order order.GreaterOrEqual from values i v e
+binary-stays kind.Equal = λ from values i v e. stays-order order.Equal from values i v e
+binary-stays kind.NotEqual = λ from values i v e. stays-order order.NotEqual from values i v e
 binary-stays _ = tt
 
 -- ---- `and` and `or`
@@ -317,10 +323,10 @@ logic-sound op left right (a ∷ b ∷ result ∷ more) (i, (j, (r, k))) = r
 
 -- ---- operators with one operand
 
-abbrev pub StaysOnOne : ℕ → (TypeTree → Bool) → Type 0
+abbrev pub StaysOnOne : Operator → (TypeTree → Bool) → Type 0
 StaysOnOne name is_defined = (ty : TypeTree) → is_defined ty ≡ true → StaysIn name (ty ∷ []) ty
 
-unary-sound : (name : ℕ) (is_defined : TypeTree → Bool) → StaysOnOne name is_defined → (operand : ℕ) (parts : List RunPart) → AreSound parts → IsSoundNext (unary_rule name is_defined operand parts)
+unary-sound : (name : Operator) (is_defined : TypeTree → Bool) → StaysOnOne name is_defined → (operand : ℕ) (parts : List RunPart) → AreSound parts → IsSoundNext (unary_rule name is_defined operand parts)
 unary-sound name is_defined stays operand [] k = tt
 unary-sound name is_defined stays operand (a ∷ []) (i, k) = by_test (is_defined a.ty) refl
   where
@@ -329,24 +335,24 @@ unary-sound name is_defined stays operand (a ∷ []) (i, k) = by_test (is_define
     by_test false e = tt
 unary-sound name is_defined stays operand (a ∷ result ∷ more) (i, (r, k)) = r
 
-negate-stays : StaysOnOne number.NEG has_negatives
-negate-stays (tree.IntType signed bits size) e = λ values i v is. stays-one operation.Neg (tree.IntType signed bits size) signed bits size values i v is
-negate-stays tree.ComptimeIntType e = λ values i v is. stays-wide operation.Neg negates tree.ComptimeIntType values i v is
+negate-stays : StaysOnOne (family.Unary one.Neg) has_negatives
+negate-stays (tree.IntType signed bits size) e = λ values i v is. stays-one one.Neg (tree.IntType signed bits size) signed bits size values i v is
+negate-stays tree.ComptimeIntType e = λ values i v is. stays-wide one.Neg negates tree.ComptimeIntType values i v is
 negate-stays _ e = cc
 
-negate_wrap-stays : StaysOnOne number.NEG_WRAP is_sized
-negate_wrap-stays (tree.IntType signed bits size) e = λ values i v is. stays-one operation.NegWrap (tree.IntType signed bits size) signed bits size values i v is
+negate_wrap-stays : StaysOnOne (family.Unary one.NegWrap) is_sized
+negate_wrap-stays (tree.IntType signed bits size) e = λ values i v is. stays-one one.NegWrap (tree.IntType signed bits size) signed bits size values i v is
 negate_wrap-stays _ e = cc
 
-bit_not-stays : StaysOnOne number.BIT_NOT is_sized
-bit_not-stays (tree.IntType signed bits size) e = λ values i v is. stays-one operation.BitNot (tree.IntType signed bits size) signed bits size values i v is
+bit_not-stays : StaysOnOne (family.Unary one.BitNot) is_sized
+bit_not-stays (tree.IntType signed bits size) e = λ values i v is. stays-one one.BitNot (tree.IntType signed bits size) signed bits size values i v is
 bit_not-stays _ e = cc
 
-not-stays : StaysOnOne number.NOT is_truth
+not-stays : StaysOnOne (family.Logic logic.Not) is_truth
 not-stays tree.BoolType e = λ values i v is. stays-negation (tree.BoolType ∷ []) values i v is
 not-stays _ e = cc
 
-abbrev pub UnaryStays : Option (ℕ × (TypeTree → Bool)) → Type 0
+abbrev pub UnaryStays : Option (Operator × (TypeTree → Bool)) → Type 0
 UnaryStays None = Unit {0}
 UnaryStays (Some found) = StaysOnOne found.0 found.1
 
@@ -357,14 +363,14 @@ unary-stays kind.BitNot = bit_not-stays
 unary-stays kind.Not = not-stays
 unary-stays _ = tt
 
-unary_or_none-sound : (found : Option (ℕ × (TypeTree → Bool))) → UnaryStays found → (operands : List ℕ) (parts : List RunPart) → AreSound parts → IsSoundNext (unary_or_none found operands parts)
+unary_or_none-sound : (found : Option (Operator × (TypeTree → Bool))) → UnaryStays found → (operands : List ℕ) (parts : List RunPart) → AreSound parts → IsSoundNext (unary_or_none found operands parts)
 unary_or_none-sound (Some (name, is_defined)) stays operands parts k = unary-sound name is_defined stays (operand operands 0) parts k
 unary_or_none-sound None stays operands parts k = tt
 
 pub operator-sound : (k : NodeKind) (operands : List ℕ) (parts : List RunPart) → AreSound parts → IsSoundNext (operator_rule k operands parts)
 operator-sound k operands parts i = by_found (binary_operator k) (binary-stays k)
   where
-    by_found : (found : Option (Family × ℕ)) → BinaryStays found →
+    by_found : (found : Option (Family × Operator)) → BinaryStays found →
         IsSoundNext (elim found [ Some f ↦ binary_rule f.0 f.1 (operand operands 0) (operand operands 1) parts | None ↦ unary_or_none (unary_operator k) operands parts ])
     by_found (Some f) stays = binary-sound f.0 f.1 stays (operand operands 0) (operand operands 1) parts i
     by_found None stays = unary_or_none-sound (unary_operator k) (unary-stays k) operands parts i

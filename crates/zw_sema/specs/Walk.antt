@@ -10,13 +10,14 @@ use Rattle.zw_tree.specs.Numbering.{first_root}
 use Rattle.zw_tree.specs.declared.ast.Entry.{Entry}
 use Rattle.zw_tree.specs.declared.kind.NodeKind.{NodeKind}
 use Rattle.zw_tree.specs.declared.kind.NodeKind.TheVariants as kind
+use Rattle.zw_num.specs.declared.operator.Operator.{Operator}
 use Rattle.zw_types.specs.TypeTrees as tree
 use Rattle.zw_types.specs.TypeTrees.{TypeTree, ValueTree}
 use Rattle.zw_values.specs.ObjectStore.{Stage, at_compile_time, at_run_time}
 use Rattle.zw_values.specs.Sameness.{is_same}
 use Rattle.zw_values.specs.Coercions.{coercion}
-use Rattle.zw_values.specs.Operations as operation
-use Rattle.zw_values.specs.Operations.{Outcome, applied}
+use Rattle.zw_values.specs.Applied as operation
+use Rattle.zw_values.specs.Applied.{Outcome, applied}
 use Rattle.zw_typed.specs.Nodes.{Op, Constant, Argument, Operate, Become, InOrder, TypedNode, node, no_nodes, node_and, nodes_from}
 use Rattle.zw_env.specs.Parts.{Part, Operand, Next, Visit, VisitKnown, VisitUnevaluated, Operation, Emit, Lookup, Bind, Returns, Raise, Done, Halt, HaltAt, a_value, a_node, is_lost}
 use Rattle.zw_env.specs.Parts as next
@@ -124,7 +125,7 @@ computed ty (operation.Panics cause) = Err (Error 21)
 computed ty operation.IsWild = Err (Error 22)
 computed ty (operation.Passes limit) = Err (Limit limit)
 
-abbrev pub operated : ℕ → TypeTree → List RunPart → Result RunPart StopKind
+abbrev pub operated : Operator → TypeTree → List RunPart → Result RunPart StopKind
 operated name ty parts =
     elim (all_known parts) [
       | Some values ↦ computed ty (applied name (types_of parts) ty values)

@@ -9,14 +9,14 @@ use Rattle.zw_session.proofs.Prefixes.{prefix_same, prefix_trans, prefix_front}
 use Rattle.zw_types.specs.TypeTrees as tree
 use Rattle.zw_types.specs.TypeTrees.{TypeTree, ValueTree}
 use Rattle.zw_values.specs.ObjectStore.{Store, Place, Holds, IsUndefined, IsDead, place_of, saved}
-use Rattle.zw_values.specs.Operations as operation
-use Rattle.zw_values.specs.Operations.{Logic, And, Or, given}
+use Rattle.zw_num.specs.declared.operator.Operator.{Operator}
+use Rattle.zw_values.specs.Applied as operation
+use Rattle.zw_values.specs.Applied.{applied}
 use Rattle.zw_values.specs.Wild.{is_undefined}
-use Rattle.zw_typed.specs.Nodes.{Import}
+use Rattle.zw_typed.specs.Nodes.{Import, Logic, And, Or}
 use Rattle.zw_typed.specs.NodeMeanings.{scalar_of, scalars_of}
 use Rattle.zw_typed.specs.Exports.{values_of}
 use Rattle.zw_typed.specs.FlowNodes.{Variable, FlowNode, FlowNodes, node, no_nodes, node_and, Function, type_of, types_of, Form, Constant, Read, Write, Declare, Scope, Operate, Become, Decide, Choose, InOrder, Target, Leave, Repeat, Count, Call, CallHost, Return, Stop}
-use Rattle.zw_typed.specs.FlowOperators.{operation_of}
 use Rattle.zw_typed.specs.FlowCounts.{Counts, work_of, work_of_turn, work_of_call}
 use Rattle.zw_typed.specs.FlowRanges.{Bounds, bounds_of, Turns, Due, Fails, NoEnd, turns_due}
 use Rattle.zw_typed.specs.FlowRuns.{Run, End, Gives, Leaves, Returns, Stops, Stuck, Evaluated, gives, goes_on, and_then, with_visit, with_bytes, with_value, turn, with_turn, object_of, object_ended, declared, ended, scoped}
@@ -111,9 +111,8 @@ module _ (R : Run → Run → Type 0) (keeps : IsKept R) where
   outcome_kept vs operation.IsWild a = wild_or_stuck_kept (list_any is_undefined vs) a
   outcome_kept vs (operation.Passes limit) a = keeps.same a
 
-  pub operated_kept : (o : Option operation.Operation) (from : List TypeTree) (to : TypeTree) (vs : List ValueTree) (a : Run) → R a (operated o from to vs a).run
-  operated_kept None from to vs a = keeps.same a
-  operated_kept (Some op) from to vs a = outcome_kept vs (given op from to vs) a
+  pub operated_kept : (o : Operator) (from : List TypeTree) (to : TypeTree) (vs : List ValueTree) (a : Run) → R a (operated o from to vs a).run
+  operated_kept op from to vs a = outcome_kept vs (applied op from to vs) a
 
   pub by_truth_kept : {V : Type 0} (v : ValueTree) (t f : Run → Evaluated V) (a : Run) →
       ((b : Run) → R b (t b).run) → ((b : Run) → R b (f b).run) → R a (by_truth v t f a).run
@@ -216,7 +215,7 @@ module _ (R : Run → Run → Type 0) (keeps : IsKept R) where
           (declared_kept k (type_of n) v writable b) (value_kept (type_of n) (declared k (type_of n) v writable b)))
       form_kept ty (Scope ks n) a = scoped_kept ks a (evaluated calls n a) (node_kept n a)
       form_kept ty (Operate op kids) a =
-          then_kept a (all_evaluated calls kids a) _ (kids_kept kids a) (λ vs b. operated_kept (operation_of op) (types_of kids) ty vs b)
+          then_kept a (all_evaluated calls kids a) _ (kids_kept kids a) (λ vs b. operated_kept op (types_of kids) ty vs b)
       form_kept ty (Become n) a = then_kept a (evaluated calls n a) _ (node_kept n a) (λ v b. value_kept (type_of n) b)
       form_kept ty (Decide logic c d) a =
           then_kept a (evaluated calls c a) _ (node_kept c a) (λ v b. decided_kept logic v (λ next. evaluated calls d next) b (λ next. node_kept d next))

@@ -12,14 +12,14 @@ use Rattle.zw_session.proofs.Staying.{sessions_stay}
 use Rattle.zw_types.specs.TypeTrees as tree
 use Rattle.zw_types.specs.TypeTrees.{TypeTree, ValueTree}
 use Rattle.zw_values.specs.ObjectStore.{Store, Place, Holds, IsUndefined, IsDead, place_of, saved}
-use Rattle.zw_values.specs.Operations as operation
-use Rattle.zw_values.specs.Operations.{Logic, And, Or, given}
+use Rattle.zw_num.specs.declared.operator.Operator.{Operator}
+use Rattle.zw_values.specs.Applied as operation
+use Rattle.zw_values.specs.Applied.{applied}
 use Rattle.zw_values.specs.Wild.{is_undefined}
-use Rattle.zw_typed.specs.Nodes.{Import}
+use Rattle.zw_typed.specs.Nodes.{Import, Logic, And, Or}
 use Rattle.zw_typed.specs.NodeMeanings.{scalar_of, scalars_of}
 use Rattle.zw_typed.specs.Exports.{values_of}
 use Rattle.zw_typed.specs.FlowNodes.{Variable, FlowNode, FlowNodes, node, no_nodes, node_and, Function, type_of, types_of, Form, Constant, Read, Write, Declare, Scope, Operate, Become, Decide, Choose, InOrder, Target, Leave, Repeat, Count, Call, CallHost, Return, Stop}
-use Rattle.zw_typed.specs.FlowOperators.{operation_of}
 use Rattle.zw_typed.specs.FlowCounts.{work_of, work_of_turn, work_of_call}
 use Rattle.zw_typed.specs.FlowRanges.{Bounds, bounds_of, Turns, Due, Fails, NoEnd, turns_due}
 use Rattle.zw_typed.specs.FlowRuns.{Run, End, Gives, Leaves, Returns, Stops, Stuck, Evaluated, gives, goes_on, and_then, with_visit, with_value, turn, with_turn, object_of, object_ended, declared, ended, scoped}
@@ -139,10 +139,9 @@ outcome_same k vs (operation.Panics cause) b = refl
 outcome_same k vs operation.IsWild b = wild_or_stuck_same k (list_any is_undefined vs) b
 outcome_same k vs (operation.Passes limit) b = refl
 
-operated_same : (k : ℕ) (o : Option operation.Operation) (from : List TypeTree) (to : TypeTree) (vs : List ValueTree) (b : Run) →
+operated_same : (k : ℕ) (o : Operator) (from : List TypeTree) (to : TypeTree) (vs : List ValueTree) (b : Run) →
     Same k (operated o from to vs b) (operated o from to vs (more_turns k b))
-operated_same k None from to vs b = refl
-operated_same k (Some op) from to vs b = outcome_same k vs (given op from to vs) b
+operated_same k op from to vs b = outcome_same k vs (applied op from to vs) b
 
 by_truth_same : {V : Type 0} (k : ℕ) (v : ValueTree) (t f : Run → Evaluated V) (b : Run) →
     ((c : Run) → Same k (t c) (t (more_turns k c))) → ((c : Run) → Same k (f c) (f (more_turns k c))) → Same k (by_truth v t f b) (by_truth v t f (more_turns k b))
@@ -304,8 +303,8 @@ module _ (k : ℕ) (calls : Calls) (grows : (f : ℕ) (args : List ValueTree) (b
     form_same ty (Scope ks n) b = scoped_same k ks (evaluated calls n b) (evaluated calls n (more_turns k b)) (node_same n b)
     form_same ty (Operate op kids) b =
         then_same k (all_evaluated calls kids b) (all_evaluated calls kids (more_turns k b)) _ _ (kids_same kids b)
-        (λ vs c. operated_same k (operation_of op) (types_of kids) ty vs c)
-        (λ vs c. FlowGrowth.operated_kept Grows FlowGrowth.growing (operation_of op) (types_of kids) ty vs c)
+        (λ vs c. operated_same k op (types_of kids) ty vs c)
+        (λ vs c. FlowGrowth.operated_kept Grows FlowGrowth.growing op (types_of kids) ty vs c)
     form_same ty (Become n) b =
         then_same k (evaluated calls n b) (evaluated calls n (more_turns k b)) _ _ (node_same n b) (λ v c. refl)
         (λ v c. FlowGrowth.value_kept Grows FlowGrowth.growing (type_of n) c)

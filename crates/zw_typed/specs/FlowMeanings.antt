@@ -9,13 +9,13 @@ use Rattle.zw_session.specs.Sessions.{Scalar, Panicked, WantsReply, Running, Wil
 use Rattle.zw_types.specs.TypeTrees as tree
 use Rattle.zw_types.specs.TypeTrees.{TypeTree, ValueTree}
 use Rattle.zw_values.specs.ObjectStore.{Store, Place, Holds, IsUndefined, IsDead, place_of, saved}
-use Rattle.zw_values.specs.Operations as operation
-use Rattle.zw_values.specs.Operations.{Logic, And, Or, given}
+use Rattle.zw_num.specs.declared.operator.Operator.{Operator}
+use Rattle.zw_values.specs.Applied as operation
+use Rattle.zw_values.specs.Applied.{applied}
 use Rattle.zw_values.specs.Wild.{is_undefined}
-use Rattle.zw_typed.specs.Nodes.{Import}
+use Rattle.zw_typed.specs.Nodes.{Import, Logic, And, Or}
 use Rattle.zw_typed.specs.NodeMeanings.{nothing, scalars_of, value_from}
 use Rattle.zw_typed.specs.FlowNodes.{Variable, FlowNode, FlowNodes, node, no_nodes, node_and, Function, type_of, types_of, Form, Constant, Read, Write, Declare, Scope, Operate, Become, Decide, Choose, InOrder, Target, Leave, Repeat, Count, Call, CallHost, Return, Stop}
-use Rattle.zw_typed.specs.FlowOperators.{operation_of}
 use Rattle.zw_typed.specs.FlowCounts.{work_of, work_of_turn, work_of_call}
 use Rattle.zw_typed.specs.FlowRuns.{Run, End, Gives, Leaves, Returns, Stops, Stuck, Evaluated, gives, stops, stuck, and_then, with_visit, with_value, with_turn, object_of, declared, scoped}
 use Rattle.zw_typed.specs.FlowRanges.{Bounds, bounds_of, Turns, Due, Fails, NoEnd, turns_due}
@@ -69,9 +69,8 @@ outcome_of values (operation.Panics cause) run = stops (Panicked cause []) run
 outcome_of values operation.IsWild run = wild_or_stuck (list_any is_undefined values) run
 outcome_of values (operation.Passes limit) run = stuck run
 
-abbrev pub operated : Option operation.Operation → List TypeTree → TypeTree → List ValueTree → Run → Evaluated ValueTree
-operated None from to values run = stuck run
-operated (Some op) from to values run = outcome_of values (given op from to values) run
+abbrev pub operated : Operator → List TypeTree → TypeTree → List ValueTree → Run → Evaluated ValueTree
+operated op from to values run = outcome_of values (applied op from to values) run
 
 -- by a truth value: to decide by what is undefined is wild
 abbrev pub by_truth : {V : Type 0} → ValueTree → (Run → Evaluated V) → (Run → Evaluated V) → Run → Evaluated V
@@ -167,7 +166,7 @@ abbrev mutual
       and_then (evaluated calls n run) (λ value after. gives nothing (with_value (type_of n) (declared k (type_of n) value writable after)))
   meant calls ty (Scope ks n) run = scoped ks (evaluated calls n run)
   meant calls ty (Operate op kids) run =
-      and_then (all_evaluated calls kids run) (λ values after. operated (operation_of op) (types_of kids) ty values after)
+      and_then (all_evaluated calls kids run) (λ values after. operated op (types_of kids) ty values after)
   meant calls ty (Become n) run = and_then (evaluated calls n run) (λ value after. become (type_of n) ty value after)
   meant calls ty (Decide logic a b) run = and_then (evaluated calls a run) (λ value after. decided logic value (λ next. evaluated calls b next) after)
   meant calls ty (Choose c a b) run =

@@ -7,8 +7,7 @@
 use Rattle.std.specs.Prelude.{ℕ, Bool, List, [], ◌∷◌, Option}
 use Rattle.zw_num.specs.declared.operator.Operator.{Operator}
 use Rattle.zw_types.specs.TypeTrees.{TypeTree, ValueTree}
-use Rattle.zw_values.specs.Operations.{Logic}
-use Rattle.zw_typed.specs.Nodes.{Import}
+use Rattle.zw_typed.specs.Nodes.{Import, Logic}
 
 -- A place at run time: so far a variable of the function by its number, parameters first.
 pub data RunPlace : Type 0 where

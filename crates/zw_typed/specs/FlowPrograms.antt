@@ -10,7 +10,7 @@ use Rattle.zw_types.specs.declared.value.TypeId.{TypeId}
 use Rattle.zw_types.specs.declared.value.Value.{Value}
 use Rattle.zw_layout.specs.declared.layout.Layout.{Layout}
 use Rattle.zw_layout.specs.Sizes.{HasLayout}
-use Rattle.zw_values.specs.Operations.{Logic}
+use Rattle.zw_typed.specs.Nodes.{Logic}
 use Rattle.zw_typed.specs.declared.program.HostFunc.{HostFunc}
 use Rattle.zw_typed.specs.declared.program.Export.{Export}
 use Rattle.zw_typed.specs.HostTypes.{is_utf8_name, is_exported_type, is_shown_type, is_result_type, all_types, is_export_name}

@@ -1,15 +1,15 @@
 -- Which nodes fit into a function of a program: by what they do, the types of what they need, and the targets that are open round them (Zig
 -- Language Reference 0.13.0, Blocks, while, for, if, Functions).
 use Rattle.std.specs.Prelude.{◌≡◌, ◌≤◌, ◌⊎◌, ℕ, suc, Bool, true, false, nat_eq, if◌then◌else◌, List, [], ◌∷◌, length, slice_get, All, Option, Some, None, Ok}
+use Rattle.zw_num.specs.declared.operator.Operator.{Operator}
+use Rattle.zw_num.specs.declared.operator.Operator.TheVariants as family
+use Rattle.zw_num.specs.declared.operator.Shift.TheVariants.{ShlSat}
 use Rattle.zw_types.specs.TypeTrees as tree
 use Rattle.zw_types.specs.TypeTrees.{TypeTree, ValueTree}
 use Rattle.zw_values.specs.Coercions.{coercion}
-use Rattle.zw_values.specs.Operations as operation
-use Rattle.zw_values.specs.Operations.{Operation, OnOrder, OnShifted}
 use Rattle.zw_typed.specs.ValueTypes.{IsValueOf}
 use Rattle.zw_typed.specs.NodeTypes.{IsSized, IsStatement, OperandsFit}
 use Rattle.zw_typed.specs.FlowNodes.{Variable, Range, FlowNode, FlowNodes, node, no_nodes, node_and, Form, Constant, Read, Write, Declare, Scope, Operate, Become, Decide, Choose, InOrder, Target, Leave, Repeat, Count, Call, CallHost, Return, Stop, type_of, types_of}
-use Rattle.zw_typed.specs.FlowOperators.{operation_of}
 use Rattle.zw_typed.specs.FlowMeanings.{usize}
 
 pub record Signature : Type 0 where
@@ -51,14 +51,13 @@ OneIsKnown tree.ComptimeIntType (tree.IntType signed bits size) = Unit {0}
 OneIsKnown _ _ = ⊥
 
 -- so may be one side of an order, and the amount of `<<|`
-abbrev pub KnownFits : Operation → List TypeTree → TypeTree → Type 0
-KnownFits (OnOrder op) (a ∷ b ∷ []) ty = (ty ≡ tree.BoolType) × OneIsKnown a b
-KnownFits (OnShifted operation.ShlSat) (a ∷ b ∷ []) ty = IsSized ty × (a ≡ ty) × (b ≡ tree.ComptimeIntType)
+abbrev pub KnownFits : Operator → List TypeTree → TypeTree → Type 0
+KnownFits (family.Comparison op) (a ∷ b ∷ []) ty = (ty ≡ tree.BoolType) × OneIsKnown a b
+KnownFits (family.Shift ShlSat) (a ∷ b ∷ []) ty = IsSized ty × (a ≡ ty) × (b ≡ tree.ComptimeIntType)
 KnownFits _ kids ty = ⊥
 
-abbrev pub OperatesOn : Option Operation → List TypeTree → TypeTree → Type 0
-OperatesOn None kids ty = ⊥
-OperatesOn (Some op) kids ty = OperandsFit op kids ty ⊎ KnownFits op kids ty
+abbrev pub OperatesOn : Operator → List TypeTree → TypeTree → Type 0
+OperatesOn op kids ty = OperandsFit op kids ty ⊎ KnownFits op kids ty
 
 -- ---- joins
 
@@ -110,7 +109,7 @@ abbrev mutual
   FormFits c around ty (Write (Variable k) n) = (ty ≡ tree.VoidType) × (slice_get c.variables k ≡ Some (type_of n)) × Fits c around n
   FormFits c around ty (Declare k writable n) = (ty ≡ tree.VoidType) × IsOwn c (type_of n) k × Fits c around n
   FormFits c around ty (Scope ks n) = (ty ≡ type_of n) × All (λ k. IsEnded c k) ks × Fits c around n
-  FormFits c around ty (Operate op kids) = OperatesOn (operation_of op) (types_of kids) ty × AllFit c around kids
+  FormFits c around ty (Operate op kids) = OperatesOn op (types_of kids) ty × AllFit c around kids
   FormFits c around ty (Become n) = Becomes ty n × Fits c around n
   FormFits c around ty (Decide logic a b) =
       (ty ≡ tree.BoolType) × (type_of a ≡ tree.BoolType) × ((type_of b ≡ tree.BoolType) ⊎ (type_of b ≡ tree.NoReturnType)) × Fits c around a × Fits c around b

@@ -10,7 +10,6 @@ pub mod NodeTypes
 pub mod FlowNodes
 pub mod FlowCounts
 pub mod FlowRuns
-pub mod FlowOperators
 pub mod FlowRanges
 pub mod FlowMeanings
 pub mod FlowMachines

@@ -6,9 +6,9 @@ use Rattle.zw_num.specs.Arithmetic.{wrapped}
 use Rattle.zw_session.specs.Sessions.{Scalar, Number, Truth, HostEvent, Halt, Panicked, WantsReply, Wild}
 use Rattle.zw_types.specs.TypeTrees as tree
 use Rattle.zw_types.specs.TypeTrees.{TypeTree, ValueTree}
-use Rattle.zw_values.specs.Operations as operation
-use Rattle.zw_values.specs.Operations.{Logic, And, Or, applied}
-use Rattle.zw_typed.specs.Nodes.{Import, Constant, Argument, Operate, Become, Decide, CallHost, InOrder, Return, TypedNode, TypedNodes, node, no_nodes, node_and, types_of}
+use Rattle.zw_values.specs.Applied as operation
+use Rattle.zw_values.specs.Applied.{applied}
+use Rattle.zw_typed.specs.Nodes.{Logic, And, Or, Import, Constant, Argument, Operate, Become, Decide, CallHost, InOrder, Return, TypedNode, TypedNodes, node, no_nodes, node_and, types_of}
 
 -- How evaluating ends: with a value and the replies that are left; by a return of the function, with its value; or it halts.
 pub data End (V : Type 0) : Type 0 where
@@ -102,8 +102,8 @@ abbrev mutual
   pub evaluated : List ValueTree → TypedNode → List ℕ → Evaluated ValueTree
   evaluated args (node (Constant value) ty kids) replies = gives value replies
   evaluated args (node (Argument k) ty kids) replies = argument_value (slice_get args k) replies
-  evaluated args (node (Operate name) ty kids) replies =
-      and_then (all_evaluated args kids replies) (λ values left. outcome_value (applied name (types_of kids) ty values) left)
+  evaluated args (node (Operate op) ty kids) replies =
+      and_then (all_evaluated args kids replies) (λ values left. outcome_value (applied op (types_of kids) ty values) left)
   evaluated args (node Become ty kids) replies = first_evaluated args kids replies
   evaluated args (node (Decide op) ty kids) replies = deciding args op kids replies
   evaluated args (node (CallHost import) ty kids) replies =

@@ -1,15 +1,25 @@
 -- Which types the kids of a node have, by what it does, at run time (Zig Language Reference 0.13.0, Operators, Builtin Functions).
 use Rattle.std.specs.Prelude.{◌≡◌, ◌≢◌, ◌<◌, ◌≤◌, ℕ, ◌+◌, ◌*◌, ◌%◌, ◌^◌, true, false, List, [], ◌∷◌, slice_get, All, Option, Some, None, Ok}
+use Rattle.zw_num.specs.declared.operator.Cast.{Cast}
+use Rattle.zw_num.specs.declared.operator.Cast.TheVariants as cast
+use Rattle.zw_num.specs.declared.operator.Comparison.{Comparison}
+use Rattle.zw_num.specs.declared.operator.Comparison.TheVariants as order
+use Rattle.zw_num.specs.declared.operator.Division.{Division}
+use Rattle.zw_num.specs.declared.operator.Division.TheVariants as quotient
+use Rattle.zw_num.specs.declared.operator.Logic.{Logic}
+use Rattle.zw_num.specs.declared.operator.Logic.TheVariants as logic
+use Rattle.zw_num.specs.declared.operator.Operator.{Operator}
+use Rattle.zw_num.specs.declared.operator.Operator.TheVariants as family
+use Rattle.zw_num.specs.declared.operator.Unary.{Unary}
+use Rattle.zw_num.specs.declared.operator.Unary.TheVariants as one
 use Rattle.zw_types.specs.TypeTrees as tree
 use Rattle.zw_types.specs.TypeTrees.{TypeTree}
 use Rattle.zw_values.specs.Coercions.{coercion}
-use Rattle.zw_values.specs.Operations as operation
-use Rattle.zw_values.specs.Operations.{Binary, Unary, Comparison, Operation, OnTwo, OnShifted, OnOne, OnBits, OnAll, OnOrder, Negation, TruthNumber, operation_of}
 use Rattle.zw_typed.specs.Nodes.{Op, Constant, Argument, Operate, Become, Decide, CallHost, InOrder, Return}
 use Rattle.zw_typed.specs.ValueTypes.{IsValueOf}
 use Rattle.zw_typed.specs.Exports.{Exported}
 
--- ---- operations
+-- ---- operators
 
 abbrev pub IsSized : TypeTree → Type 0
 IsSized (tree.IntType signed bits size) = Unit {0}
@@ -28,10 +38,10 @@ HasWholeBytes (tree.IntType signed bits size) = bits % 8 ≡ 0
 HasWholeBytes _ = ⊥
 
 -- `/` and `%` are for unsigned integers
-abbrev pub BinaryFits : Binary → TypeTree → Type 0
-BinaryFits operation.Div ty = IsUnsigned ty
-BinaryFits operation.Rem ty = IsUnsigned ty
-BinaryFits _ ty = IsSized ty
+abbrev pub DivisionFits : Division → TypeTree → Type 0
+DivisionFits quotient.Div ty = IsUnsigned ty
+DivisionFits quotient.Rem ty = IsUnsigned ty
+DivisionFits _ ty = IsSized ty
 
 -- cut down to an integer of the same sign and no more bits
 abbrev pub IsCutTo : TypeTree → TypeTree → Type 0
@@ -48,15 +58,12 @@ IsMagnitude (tree.IntType signed bits size) to = to ≡ tree.IntType false bits 
 IsMagnitude _ to = ⊥
 
 abbrev pub UnaryFits : Unary → TypeTree → TypeTree → Type 0
-UnaryFits operation.Neg from to = IsSigned to × (from ≡ to)
-UnaryFits operation.NegWrap from to = IsSized to × (from ≡ to)
-UnaryFits operation.BitNot from to = IsSized to × (from ≡ to)
-UnaryFits operation.IntCast from to = IsSized from × IsSized to
-UnaryFits operation.Truncate from to = IsCutTo from to
-UnaryFits operation.BitCast from to = HasSameBits from to
-UnaryFits operation.ByteSwap from to = HasWholeBytes to × (from ≡ to)
-UnaryFits operation.BitReverse from to = IsSized to × (from ≡ to)
-UnaryFits operation.Abs from to = IsMagnitude from to
+UnaryFits one.Neg from to = IsSigned to × (from ≡ to)
+UnaryFits one.NegWrap from to = IsSized to × (from ≡ to)
+UnaryFits one.BitNot from to = IsSized to × (from ≡ to)
+UnaryFits one.ByteSwap from to = HasWholeBytes to × (from ≡ to)
+UnaryFits one.BitReverse from to = IsSized to × (from ≡ to)
+UnaryFits one.Abs from to = IsMagnitude from to
 
 -- the least unsigned type that holds the width itself
 abbrev pub CountFits : TypeTree → TypeTree → Type 0
@@ -64,8 +71,8 @@ CountFits (tree.IntType signed bits size) (tree.IntType false wide false) = (bit
 CountFits _ _ = ⊥
 
 abbrev pub IsEquality : Comparison → Type 0
-IsEquality operation.Equal = Unit {0}
-IsEquality operation.NotEqual = Unit {0}
+IsEquality order.Equal = Unit {0}
+IsEquality order.NotEqual = Unit {0}
 IsEquality _ = ⊥
 
 -- any two integers; two truth values are equal or not
@@ -74,20 +81,30 @@ OrderFits op (tree.IntType signed bits size) (tree.IntType signed' bits' size') 
 OrderFits op tree.BoolType tree.BoolType = IsEquality op
 OrderFits op _ _ = ⊥
 
-abbrev pub OperandsFit : Operation → List TypeTree → TypeTree → Type 0
-OperandsFit (OnTwo op) kids ty = BinaryFits op ty × (kids ≡ ty ∷ ty ∷ [])
-OperandsFit (OnShifted op) (a ∷ b ∷ []) ty = IsSized ty × (a ≡ ty) × IsSized b
-OperandsFit (OnOne op) (a ∷ []) ty = UnaryFits op a ty
-OperandsFit (OnBits count) (a ∷ []) ty = CountFits a ty
-OperandsFit (OnAll op) kids ty = IsSized ty × (kids ≢ []) × All (λ a. a ≡ ty) kids
-OperandsFit (OnOrder op) (a ∷ b ∷ []) ty = (ty ≡ tree.BoolType) × OrderFits op a b
-OperandsFit Negation kids ty = (ty ≡ tree.BoolType) × (kids ≡ tree.BoolType ∷ [])
-OperandsFit TruthNumber kids ty = (ty ≡ tree.IntType false 1 false) × (kids ≡ tree.BoolType ∷ [])
-OperandsFit _ kids ty = ⊥
+abbrev pub CastFits : Cast → List TypeTree → TypeTree → Type 0
+CastFits cast.IntFromBool kids ty = (ty ≡ tree.IntType false 1 false) × (kids ≡ tree.BoolType ∷ [])
+CastFits cast.IntCast (a ∷ []) ty = IsSized a × IsSized ty
+CastFits cast.Truncate (a ∷ []) ty = IsCutTo a ty
+CastFits cast.BitCast (a ∷ []) ty = HasSameBits a ty
+CastFits _ kids ty = ⊥
 
-abbrev pub NamedFits : Option Operation → List TypeTree → TypeTree → Type 0
-NamedFits None kids ty = ⊥
-NamedFits (Some operation) kids ty = OperandsFit operation kids ty
+-- `and` and `or` are nodes of their own
+abbrev pub LogicFits : Logic → List TypeTree → TypeTree → Type 0
+LogicFits logic.Not kids ty = (ty ≡ tree.BoolType) × (kids ≡ tree.BoolType ∷ [])
+LogicFits _ kids ty = ⊥
+
+abbrev pub OperandsFit : Operator → List TypeTree → TypeTree → Type 0
+OperandsFit (family.Arithmetic op) kids ty = IsSized ty × (kids ≡ ty ∷ ty ∷ [])
+OperandsFit (family.Division op) kids ty = DivisionFits op ty × (kids ≡ ty ∷ ty ∷ [])
+OperandsFit (family.Bitwise op) kids ty = IsSized ty × (kids ≡ ty ∷ ty ∷ [])
+OperandsFit (family.Shift op) (a ∷ b ∷ []) ty = IsSized ty × (a ≡ ty) × IsSized b
+OperandsFit (family.Unary op) (a ∷ []) ty = UnaryFits op a ty
+OperandsFit (family.Count op) (a ∷ []) ty = CountFits a ty
+OperandsFit (family.Extreme op) kids ty = IsSized ty × (kids ≢ []) × All (λ a. a ≡ ty) kids
+OperandsFit (family.Comparison op) (a ∷ b ∷ []) ty = (ty ≡ tree.BoolType) × OrderFits op a b
+OperandsFit (family.Cast op) kids ty = CastFits op kids ty
+OperandsFit (family.Logic op) kids ty = LogicFits op kids ty
+OperandsFit _ kids ty = ⊥
 
 -- ---- nodes
 
@@ -106,7 +123,7 @@ IsStatement _ = ⊥
 abbrev pub KidsFit : Exported → Op → TypeTree → List TypeTree → Type 0
 KidsFit f (Constant value) ty kids = IsValueOf ty value × (kids ≡ [])
 KidsFit f (Argument k) ty kids = (slice_get f.params k ≡ Some ty) × (kids ≡ [])
-KidsFit f (Operate name) ty kids = NamedFits (operation_of name) kids ty
+KidsFit f (Operate op) ty kids = OperandsFit op kids ty
 KidsFit f Become ty kids = Becomes kids ty
 KidsFit f (Decide logic) ty kids = (ty ≡ tree.BoolType) × (kids ≡ tree.BoolType ∷ tree.BoolType ∷ [])
 KidsFit f (CallHost import) ty kids = (ty ≡ import.result) × (kids ≡ import.params)

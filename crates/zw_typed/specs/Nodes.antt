@@ -1,8 +1,8 @@
 -- Typed nodes: what is left to do at run time (this project's own). A node is the tree of what it needs; numbers of nodes are a way of
 -- writing these trees down, as those of types are.
 use Rattle.std.specs.Prelude.{ℕ, List, [], ◌∷◌}
+use Rattle.zw_num.specs.declared.operator.Operator.{Operator}
 use Rattle.zw_types.specs.TypeTrees.{TypeTree, ValueTree}
-use Rattle.zw_values.specs.Operations.{Logic}
 
 -- a function of the host: its name, and the types of its parameters and of its result
 pub record Import : Type 0 where
@@ -10,13 +10,17 @@ pub record Import : Type 0 where
   pub params : List TypeTree
   pub result : TypeTree
 
+-- the operators that evaluate their second operand where the first one doesn't decide
+pub data Logic : Type 0 where
+  And Or : Logic
+
 -- what a node does
 pub data Op : Type 0 where
   -- it is this value, or the argument with this number
   Constant : ValueTree → Op
   Argument : ℕ → Op
-  -- the operation of `zw_num` with this number, on the values of all its kids in order
-  Operate : ℕ → Op
+  -- this operator, on the values of all its kids in order
+  Operate : Operator → Op
   -- the value of its one kid becomes one of the node's type
   Become : Op
   -- `and` and `or`: the first of two kids decides whether the second is evaluated

@@ -1,6 +1,7 @@
 -- A program written down by hand, and the functions that it is read as.
 use Rattle.std.specs.Prelude.{◌≡◌, ℕ, false, List, [], ◌∷◌, None, codes}
-use Rattle.zw_num.specs.declared.op.TheConstants as number
+use Rattle.zw_num.specs.declared.operator.Arithmetic.TheVariants as sum
+use Rattle.zw_num.specs.declared.operator.Operator.TheVariants as family
 use Rattle.zw_types.specs.TypeTrees as tree
 use Rattle.zw_types.specs.TypeTrees.{TypeTree}
 use Rattle.zw_types.specs.declared.value.TypeId.{TypeId}
@@ -32,7 +33,7 @@ calling = record {
     result = id 0;
     vars = [];
     nodes = does (op.Argument 0) 0 [] ∷ does (op.CallHost 0) 0 (0 ∷ []) ∷ does (op.Argument 0) 0 [] ∷
-        does (op.Operate number.ADD) 0 (1 ∷ 2 ∷ []) ∷ does op.Return 1 (3 ∷ []) ∷ does op.InOrder 1 (4 ∷ []) ∷ [];
+        does (op.Operate (family.Arithmetic sum.Add)) 0 (1 ∷ 2 ∷ []) ∷ does op.Return 1 (3 ∷ []) ∷ does op.InOrder 1 (4 ∷ []) ∷ [];
     body = 5;
   } ∷ [];
   imports = record { name = codes "h"; params = id 0 ∷ []; result = id 0 } ∷ [];
@@ -45,7 +46,7 @@ pub record WorkedPrograms : Type 0 where
     name = codes "f";
     params = byte ∷ [];
     result = byte;
-    body = node InOrder tree.NoReturnType (node_and (node Return tree.NoReturnType (node_and (node (Operate number.ADD) byte
+    body = node InOrder tree.NoReturnType (node_and (node Return tree.NoReturnType (node_and (node (Operate (family.Arithmetic sum.Add)) byte
         (node_and (node (CallHost (record { name = codes "h"; params = byte ∷ []; result = byte })) byte (node_and (node (Argument 0) byte no_nodes) no_nodes))
         (node_and (node (Argument 0) byte no_nodes) no_nodes))) no_nodes)) no_nodes);
   } ∷ []

@@ -1,6 +1,7 @@
 // The records of a typed program. Contracts see each `Items` as the list of its items, and `Types` as the list of its types.
 use sqlite_items::Items;
 use zw_base::{Place, Word};
+use zw_num::Operator;
 use zw_types::{TypeId, Types, Value};
 
 /// What a node does.
@@ -10,8 +11,8 @@ pub enum NodeOp {
     Constant(Value),
     /// The argument of the function with this number, from 0.
     Argument(u32),
-    /// The operation of `zw_num` with this number, on the values of its kids.
-    Operate(u16),
+    /// This operator, on the values of its kids.
+    Operate(Operator),
     /// The value of its kid becomes one of its type.
     Become,
     /// Of two kids the second is evaluated where the first is true.
