@@ -26,7 +26,12 @@ pub fn check_applied(alloc: Global, fields: &[Field<'_>]) -> Result<Report, Mist
 }
 
 /// What an operator gives, as a row has it.
-fn outcome(alloc: Global, line: Line<'_>, operator: Operator, given: &str) -> Result<String, Mistake> {
+fn outcome(
+    alloc: Global,
+    line: Line<'_>,
+    operator: Operator,
+    given: &str,
+) -> Result<String, Mistake> {
     let Some((from, rest)) = given.split_once(" : ") else {
         return Err(Mistake::Wrong(line.number, Problem::MissingWord));
     };

@@ -1,7 +1,7 @@
 // The operators and builtins by the words of rows.
 use zw_num::{
-    Arithmetic, Bitwise, Cast, Comparison, Count, Division, Extreme, Logic, Measure, Operator, Shift,
-    Unary,
+    Arithmetic, Bitwise, Cast, Comparison, Count, Division, Extreme, Logic, Measure, Operator,
+    Shift, Unary,
 };
 
 /// The operators and builtins by their names.
@@ -30,9 +30,15 @@ const OPERATORS: [(&str, Operator); 52] = [
     ("equal", Operator::Comparison(Comparison::Equal)),
     ("not_equal", Operator::Comparison(Comparison::NotEqual)),
     ("less", Operator::Comparison(Comparison::Less)),
-    ("less_or_equal", Operator::Comparison(Comparison::LessOrEqual)),
+    (
+        "less_or_equal",
+        Operator::Comparison(Comparison::LessOrEqual),
+    ),
     ("greater", Operator::Comparison(Comparison::Greater)),
-    ("greater_or_equal", Operator::Comparison(Comparison::GreaterOrEqual)),
+    (
+        "greater_or_equal",
+        Operator::Comparison(Comparison::GreaterOrEqual),
+    ),
     ("and", Operator::Logic(Logic::And)),
     ("or", Operator::Logic(Logic::Or)),
     ("as", Operator::Cast(Cast::As)),

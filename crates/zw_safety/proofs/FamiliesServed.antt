@@ -166,8 +166,8 @@ result_of_one o from Comptime a h e = absurd h
 right_of_two : (o : Operator) (t : Setting) (is : List Instr) → HasBits t.to → has_two o ≡ true → number_narrow.IsRight (number_of o) t.left t.right t.to t.scratch is → IsRightOfTwo o t is
 right_of_two o t is sized e r = record {
   ends = λ m v c a b os rest il ir scratch state.
-    subst (λ z. EndsWith m v t.scratch t.to z (placed (code_of (is ++ rest)) (filled t.right b ∷ filled t.left a ∷ os) c) (code_of rest) os)
-    (sym (result_of_two o t.to a b sized e)) (r.ends m v c a b os rest il ir (λ w. scratch (writes_same o t ∙ w)) state);
+      subst (λ z. EndsWith m v t.scratch t.to z (placed (code_of (is ++ rest)) (filled t.right b ∷ filled t.left a ∷ os) c) (code_of rest) os)
+      (sym (result_of_two o t.to a b sized e)) (r.ends m v c a b os rest il ir (λ w. scratch (writes_same o t ∙ w)) state);
   typed = λ x ts scratch state. r.typed x ts (λ w. scratch (writes_same o t ∙ w)) state;
   closed = r.closed;
 }
@@ -175,8 +175,8 @@ right_of_two o t is sized e r = record {
 right_of_one : (o : Operator) (t : Setting) (is : List Instr) → HasBits t.to → has_one o ≡ true → number_narrow.IsRightOnOne (number_of o) t.left t.to t.scratch is → IsRightOfOne o t is
 right_of_one o t is sized e r = record {
   ends = λ m v c a os rest il scratch state.
-    subst (λ z. EndsWith m v t.scratch t.to z (placed (code_of (is ++ rest)) (filled t.left a ∷ os) c) (code_of rest) os)
-    (sym (result_of_one o t.left t.to a sized e)) (r.ends m v c a os rest il (λ w. scratch) state);
+      subst (λ z. EndsWith m v t.scratch t.to z (placed (code_of (is ++ rest)) (filled t.left a ∷ os) c) (code_of rest) os)
+      (sym (result_of_one o t.left t.to a sized e)) (r.ends m v c a os rest il (λ w. scratch) state);
   typed = λ x ts scratch state. r.typed x ts (λ w. scratch) state;
   closed = r.closed;
 }

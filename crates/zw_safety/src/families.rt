@@ -3,8 +3,8 @@ ghost use Rattle.std.specs.Prelude.{◌≡◌, ◌↔◌, ◌≤◌, ◌++◌, I
 ghost use Rattle.zw_safety.specs.Families.{IsServed, IsRight, is_served, serves_in_32, serves_in_64, fit_in, amount_fits, bytes_fit, types_fit, is_kept_shift, has_code, has_two, has_one, is_not, last_type, goes_wide, stored_code};
 ghost use Rattle.zw_safety_narrow.specs.declared.setting.TheConstants.{GREATEST_SCRATCH};
 
-use std::alloc::AllocError;
 use crate::served::has_at_most;
+use std::alloc::AllocError;
 use zw_num::{IntTy, Logic, Operator, Shift, Unary};
 use zw_safety_narrow::{Setting, holds, is_unsigned, push_narrow, width};
 use zw_safety_wide::{are_wide_shares, push_wide};
