@@ -21,21 +21,24 @@ use Rattle.zw_typed.specs.FlowCounts.{Counts, work_of, work_of_turn, work_of_cal
 use Rattle.zw_typed.specs.FlowRanges.{Bounds, bounds_of, Turns, Due, Fails, NoEnd, turns_due}
 use Rattle.zw_typed.specs.FlowRuns.{Run, End, Gives, Leaves, Returns, Stops, Stuck, Evaluated, gives, goes_on, and_then, with_visit, with_bytes, with_value, turn, with_turn, object_of, object_ended, declared, ended, scoped}
 use Rattle.zw_typed.specs.Weights.{run_size}
-use Rattle.zw_typed.specs.FlowMeanings.{Calls, usize, arrives, read_from, read, stored, written_to, write, wild_or_stuck, outcome_of, operated, by_truth, decided, at_label, at_target, repeated, capture_at, capture_of, captured, counted, by_turns, over_ranges, replied, host_called, evaluated, meant, all_evaluated, bound, is_void, at_end, returned, back, body_done, entered, found_called, calls_within}
+use Rattle.zw_typed.specs.FlowMeanings.{Calls, usize, arrives, read_from, read, stored, written_to, write, wild_or_stuck, outcome_of, operated, by_truth, decided, at_label, at_target, repeated, capture_at, capture_of, captured, counted, by_turns, over_ranges, replied, host_called, evaluated, meant, all_evaluated, bound, returned, back, body_done, entered, found_called, calls_within}
 use Rattle.zw_typed.specs.FlowMachines.{Functions, Kept, kept_by, run_from, call_of, call_end, result_end, result_of, exported, counts_after, session_counts}
 use Rattle.zw_typed.specs.FlowLaws.{Grows, CountsGrow, RunsGrow}
 use Rattle.std.specs.Prelude.{slice_set, pos, nat_eq, nat_le}
 
--- the relation goes on, and each single change keeps it
+-- the relation goes on, and each single change keeps it that takes no turn and counts no node
 pub record IsKept (R : Run → Run → Type 0) : Type 0 where
   pub same : (a : Run) → R a a
   pub trans : (a b c : Run) → R a b → R b c → R a c
-  pub visit : (a : Run) (counts : Bool) (work : ℕ) → R a (with_visit counts work a)
   pub bytes : (a : Run) (bytes : ℕ) → R a (with_bytes bytes a)
-  pub turned : (a : Run) (left : ℕ) → a.turns ≡ suc left → R a (record a { turns = left })
   pub objects : (a : Run) (store : Store) (variables : List (Option ℕ)) → R a (record a { store = store; variables = variables })
   pub reply : (a : Run) (reply : ℕ) (replies : List ℕ) → a.replies ≡ reply ∷ replies → R a (record a { replies = replies })
   pub event : (a : Run) (event : HostEvent) → R a (record a { events = a.events ++ event ∷ [] })
+
+-- those keep it too
+pub record TakesTurns (R : Run → Run → Type 0) : Type 0 where
+  pub visit : (a : Run) (counts : Bool) (work : ℕ) → R a (with_visit counts work a)
+  pub turned : (a : Run) (left : ℕ) → a.turns ≡ suc left → R a (record a { turns = left })
 
 module _ (R : Run → Run → Type 0) (keeps : IsKept R) where
   pub then_kept : {V W : Type 0} (a : Run) (r : Evaluated V) (go : V → Run → Evaluated W) →
@@ -63,15 +66,6 @@ module _ (R : Run → Run → Type 0) (keeps : IsKept R) where
 
   pub scoped_kept : {V : Type 0} (ks : List ℕ) (a : Run) (r : Evaluated V) → R a r.run → R a (scoped ks r).run
   scoped_kept ks a r h = keeps.trans a r.run (ended ks r.run) h (ended_kept ks r.run)
-
-  pub turn_kept : {V : Type 0} (n : ℕ) (a : Run) (go : Run → Evaluated V) → a.turns ≡ n → ((b : Run) → R b (go b).run) → R a (turn n a go).run
-  turn_kept zero a go e each = keeps.same a
-  turn_kept (suc left) a go e each =
-      let b : Run = record a { turns = left } in
-      keeps.trans a b (go b).run (keeps.turned a left e) (each b)
-
-  pub with_turn_kept : {V : Type 0} (a : Run) (go : Run → Evaluated V) → ((b : Run) → R b (go b).run) → R a (with_turn a go).run
-  with_turn_kept a go each = turn_kept a.turns a go refl each
 
   -- ---- places
 
@@ -111,6 +105,9 @@ module _ (R : Run → Run → Type 0) (keeps : IsKept R) where
   outcome_kept vs operation.IsWild a = wild_or_stuck_kept (list_any is_undefined vs) a
   outcome_kept vs (operation.Passes limit) a = keeps.same a
 
+  pub over_none_kept : (vs : List ValueTree) (body : Run → Evaluated ValueTree) (a : Run) → R a (over_ranges vs None body a).run
+  over_none_kept vs body a = wild_or_stuck_kept (list_any is_undefined vs) a
+
   pub operated_kept : (o : Operator) (from : List TypeTree) (to : TypeTree) (vs : List ValueTree) (a : Run) → R a (operated o from to vs a).run
   operated_kept op from to vs a = outcome_kept vs (applied op from to vs) a
 
@@ -138,12 +135,6 @@ module _ (R : Run → Run → Type 0) (keeps : IsKept R) where
   at_target_kept t from to (Stops halt) a = keeps.same a
   at_target_kept t from to Stuck a = keeps.same a
 
-  pub repeated_kept : (n : ℕ) (body : Run → Evaluated ValueTree) (a : Run) → ((b : Run) → R b (body b).run) → R a (repeated n body a).run
-  repeated_kept zero body a h = then_kept a (body a) _ (h a) (λ v b. keeps.same b)
-  repeated_kept (suc left) body a h = then_kept a (body a) _ (h a) (λ v b. with_turn_kept b _ (λ c.
-      keeps.trans c (with_visit false work_of_turn c) (repeated left body (with_visit false work_of_turn c)).run
-      (keeps.visit c false work_of_turn) (repeated_kept left body (with_visit false work_of_turn c) h)))
-
   pub capture_at_kept : (t : Bool) (k n : ℕ) (more : Run → Evaluated (List ℕ)) (a : Run) → ((b : Run) → R b (more b).run) → R a (capture_at t k n more a).run
   capture_at_kept true k n more a h =
       let b : Run = declared k usize (tree.NumberValue (pos n)) false a in
@@ -161,26 +152,6 @@ module _ (R : Run → Run → Type 0) (keeps : IsKept R) where
   captured_kept [] n a = keeps.same a
   captured_kept (b ∷ more) n a = capture_of_kept b.capture (b.start + n) (λ next. captured more n next) a (λ next. captured_kept more n next)
 
-  pub counted_kept : (due : ℕ) (bounds : List Bounds) (n : ℕ) (body : Run → Evaluated ValueTree) (a : Run) →
-      ((b : Run) → R b (body b).run) → R a (counted due bounds n body a).run
-  counted_kept zero bounds n body a h = keeps.same a
-  counted_kept (suc due) bounds n body a h =
-      then_kept a (and_then (captured bounds n a) (λ ks after. scoped ks (body after))) _
-      (then_kept a (captured bounds n a) (λ ks after. scoped ks (body after)) (captured_kept bounds n a) (λ ks b. scoped_kept ks b (body b) (h b)))
-      (λ v b. with_turn_kept b _ (λ c.
-      keeps.trans c (with_visit false work_of_turn c) (counted due bounds (n + 1) body (with_visit false work_of_turn c)).run
-      (keeps.visit c false work_of_turn) (counted_kept due bounds (n + 1) body (with_visit false work_of_turn c) h)))
-
-  pub by_turns_kept : (ts : Turns) (bounds : List Bounds) (body : Run → Evaluated ValueTree) (a : Run) → ((b : Run) → R b (body b).run) → R a (by_turns ts bounds body a).run
-  by_turns_kept (Due n) bounds body a h = counted_kept n bounds 0 body a h
-  by_turns_kept (Fails cause) bounds body a h = keeps.same a
-  by_turns_kept NoEnd bounds body a h = keeps.same a
-
-  pub over_kept : (vs : List ValueTree) (o : Option (List Bounds)) (body : Run → Evaluated ValueTree) (a : Run) →
-      ((b : Run) → R b (body b).run) → R a (over_ranges vs o body a).run
-  over_kept vs None body a h = wild_or_stuck_kept (list_any is_undefined vs) a
-  over_kept vs (Some bounds) body a h = by_turns_kept (turns_due bounds) bounds body a h
-
   -- ---- calls of the host
 
   pub replied_kept : (ty : TypeTree) (replies : List ℕ) (a : Run) → a.replies ≡ replies → R a (replied ty replies a).run
@@ -195,56 +166,6 @@ module _ (R : Run → Run → Type 0) (keeps : IsKept R) where
       let b : Run = record a { events = a.events ++ e ∷ [] } in
       keeps.trans a b (replied i.result a.replies b).run (keeps.event a e) (replied_kept i.result a.replies b refl)
 
-  -- ---- nodes
-
-  module _ (calls : Calls) (called : (f : ℕ) (args : List ValueTree) (a : Run) → R a (calls f args a).run) where
-    mutual
-      pub node_kept : (n : FlowNode) (a : Run) → R a (evaluated calls n a).run
-      node_kept (node counts ty form) a =
-          let b : Run = with_visit counts (work_of form) a in
-          keeps.trans a b (meant calls ty form b).run (keeps.visit a counts (work_of form)) (form_kept ty form b)
-
-      pub form_kept : (ty : TypeTree) (form : Form) (a : Run) → R a (meant calls ty form a).run
-      form_kept ty (Constant v) a = keeps.same a
-      form_kept ty (Read (Variable k)) a = read_kept ty (object_of a k) a
-      form_kept ty (Write (Variable k) n) a =
-          then_kept a (evaluated calls n a) _ (node_kept n a) (λ v b. write_kept (type_of n) (object_of b k) v b)
-      form_kept ty (Declare k writable n) a =
-          then_kept a (evaluated calls n a) _ (node_kept n a) (λ v b.
-          keeps.trans b (declared k (type_of n) v writable b) (with_value (type_of n) (declared k (type_of n) v writable b))
-          (declared_kept k (type_of n) v writable b) (value_kept (type_of n) (declared k (type_of n) v writable b)))
-      form_kept ty (Scope ks n) a = scoped_kept ks a (evaluated calls n a) (node_kept n a)
-      form_kept ty (Operate op kids) a =
-          then_kept a (all_evaluated calls kids a) _ (kids_kept kids a) (λ vs b. operated_kept op (types_of kids) ty vs b)
-      form_kept ty (Become n) a = then_kept a (evaluated calls n a) _ (node_kept n a) (λ v b. value_kept (type_of n) b)
-      form_kept ty (Decide logic c d) a =
-          then_kept a (evaluated calls c a) _ (node_kept c a) (λ v b. decided_kept logic v (λ next. evaluated calls d next) b (λ next. node_kept d next))
-      form_kept ty (Choose c d e) a =
-          then_kept a (evaluated calls c a) _ (node_kept c a) (λ v b. by_truth_kept v
-          (λ next. and_then (evaluated calls d next) (λ given last. arrives (type_of d) ty given last))
-          (λ next. and_then (evaluated calls e next) (λ given last. arrives (type_of e) ty given last)) b
-          (λ next. then_kept next (evaluated calls d next) _ (node_kept d next) (λ given last. value_kept ty last))
-          (λ next. then_kept next (evaluated calls e next) _ (node_kept e next) (λ given last. value_kept ty last)))
-      form_kept ty (InOrder kids) a = then_kept a (all_evaluated calls kids a) _ (kids_kept kids a) (λ vs b. keeps.same b)
-      form_kept ty (Target t n) a =
-          let r : Evaluated ValueTree = evaluated calls n a in
-          keeps.trans a r.run (at_target t (type_of n) ty r.end r.run).run (node_kept n a) (at_target_kept t (type_of n) ty r.end r.run)
-      form_kept ty (Leave t n) a = then_kept a (evaluated calls n a) _ (node_kept n a) (λ v b. keeps.same b)
-      form_kept ty (Repeat n) a = repeated_kept a.turns (λ next. evaluated calls n next) a (λ next. node_kept n next)
-      form_kept ty (Count ranges bounds n) a =
-          then_kept a (all_evaluated calls bounds a) _ (kids_kept bounds a)
-          (λ vs b. over_kept vs (bounds_of ranges vs) (λ next. evaluated calls n next) b (λ next. node_kept n next))
-      form_kept ty (Call f args) a = then_kept a (all_evaluated calls args a) _ (kids_kept args a) (λ vs b. called f vs b)
-      form_kept ty (CallHost i args) a =
-          then_kept a (all_evaluated calls args a) _ (kids_kept args a) (λ vs b. host_kept i vs (scalars_of vs) b)
-      form_kept ty (Return n) a = then_kept a (evaluated calls n a) _ (node_kept n a) (λ v b. keeps.same b)
-      form_kept ty (Stop cause) a = keeps.same a
-
-      pub kids_kept : (ns : FlowNodes) (a : Run) → R a (all_evaluated calls ns a).run
-      kids_kept no_nodes a = keeps.same a
-      kids_kept (node_and n ns) a = then_kept a (evaluated calls n a) _ (node_kept n a) (λ v b.
-          then_kept b (all_evaluated calls ns b) _ (kids_kept ns b) (λ vs c. keeps.same c))
-
   -- ---- functions
 
   pub bound_kept : (k : ℕ) (types : List TypeTree) (vs : List ValueTree) (a : Run) → R a (bound k types vs a).run
@@ -258,12 +179,8 @@ module _ (R : Run → Run → Type 0) (keeps : IsKept R) where
   bound_kept k [] (v ∷ vs) a = keeps.same a
   bound_kept k (ty ∷ types) [] a = keeps.same a
 
-  pub at_end_kept : (b : Bool) (a : Run) → R a (at_end b a).run
-  at_end_kept true a = keeps.same a
-  at_end_kept false a = keeps.same a
-
   pub returned_kept : (result : TypeTree) (end : End ValueTree) (a : Run) → R a (returned result end a).run
-  returned_kept result (Gives v) a = at_end_kept (is_void result) a
+  returned_kept result (Gives v) a = value_kept result a
   returned_kept result (Leaves target ty v) a = keeps.same a
   returned_kept result (Returns ty v) a = value_kept result a
   returned_kept result (Stops halt) a = keeps.same a
@@ -272,39 +189,125 @@ module _ (R : Run → Run → Type 0) (keeps : IsKept R) where
   pub back_kept : (variables : List (Option ℕ)) (a : Run) (r : Evaluated ValueTree) → R a r.run → R a (back variables r).run
   back_kept variables a r h = keeps.trans a r.run (record r.run { variables = variables }) h (keeps.objects r.run r.run.store variables)
 
-  pub body_kept : (calls : Calls) → ((f : ℕ) (args : List ValueTree) (a : Run) → R a (calls f args a).run) → (f : Function) (ks : List ℕ) (b : Run) →
-      R b (body_done f.result (scoped ks (evaluated calls f.body b))).run
-  body_kept calls called f ks b =
-      let s : Evaluated ValueTree = scoped ks (evaluated calls f.body b) in
-      keeps.trans b s.run (returned f.result s.end s.run).run (scoped_kept ks b (evaluated calls f.body b) (node_kept calls called f.body b)) (returned_kept f.result s.end s.run)
+  -- ---- turns and nodes
 
-  pub entered_kept : (calls : Calls) → ((f : ℕ) (args : List ValueTree) (a : Run) → R a (calls f args a).run) →
-      (f : Function) (args : List ValueTree) (a : Run) → R a (entered calls f args a).run
-  entered_kept calls called f args a =
-      let seen : Run = with_visit true work_of_call a in
-      let own : Run = record seen { variables = replicate (length f.params + length f.vars) None } in
-      let r : Evaluated ValueTree = and_then (bound 0 f.params args own) (λ ks after. body_done f.result (scoped ks (evaluated calls f.body after))) in
-      back_kept a.variables a r
-      (keeps.trans a seen r.run (keeps.visit a true work_of_call)
-      (keeps.trans seen own r.run (keeps.objects seen seen.store own.variables)
-      (then_kept own (bound 0 f.params args own) (λ ks after. body_done f.result (scoped ks (evaluated calls f.body after)))
-      (bound_kept 0 f.params args own) (λ ks b. body_kept calls called f ks b))))
+  module _ (takes : TakesTurns R) where
+    pub turn_kept : {V : Type 0} (n : ℕ) (a : Run) (go : Run → Evaluated V) → a.turns ≡ n → ((b : Run) → R b (go b).run) → R a (turn n a go).run
+    turn_kept zero a go e each = keeps.same a
+    turn_kept (suc left) a go e each =
+        let b : Run = record a { turns = left } in
+        keeps.trans a b (go b).run (takes.turned a left e) (each b)
 
-  pub found_kept : (calls : Calls) → ((f : ℕ) (args : List ValueTree) (a : Run) → R a (calls f args a).run) →
-      (o : Option Function) (args : List ValueTree) (a : Run) → R a (found_called calls o args a).run
-  found_kept calls called None args a = keeps.same a
-  found_kept calls called (Some f) args a = with_turn_kept a _ (λ next. entered_kept calls called f args next)
+    pub with_turn_kept : {V : Type 0} (a : Run) (go : Run → Evaluated V) → ((b : Run) → R b (go b).run) → R a (with_turn a go).run
+    with_turn_kept a go each = turn_kept a.turns a go refl each
 
-  pub calls_kept : (functions : List Function) (room f : ℕ) (args : List ValueTree) (a : Run) → R a (calls_within functions room f args a).run
-  calls_kept functions zero f args a = keeps.same a
-  calls_kept functions (suc room) f args a =
-      found_kept (calls_within functions room) (λ g more b. calls_kept functions room g more b) (slice_get functions f) args a
+    pub repeated_kept : (n : ℕ) (body : Run → Evaluated ValueTree) (a : Run) → ((b : Run) → R b (body b).run) → R a (repeated n body a).run
+    repeated_kept zero body a h = then_kept a (body a) _ (h a) (λ v b. keeps.same b)
+    repeated_kept (suc left) body a h = then_kept a (body a) _ (h a) (λ v b. with_turn_kept b _ (λ c.
+        keeps.trans c (with_visit false work_of_turn c) (repeated left body (with_visit false work_of_turn c)).run
+        (takes.visit c false work_of_turn) (repeated_kept left body (with_visit false work_of_turn c) h)))
 
-  pub exported_kept : (depth : ℕ) (p : Functions) (kept : Kept) (o : Option Function) (args : List Scalar) (replies : List ℕ) (turns : ℕ) →
-      R (run_from kept replies turns) (call_of depth p kept o args replies turns).run
-  exported_kept depth p kept None args replies turns = keeps.same (run_from kept replies turns)
-  exported_kept depth p kept (Some f) args replies turns =
-      entered_kept (calls_within p.functions (depth - 1)) (λ g more b. calls_kept p.functions (depth - 1) g more b) f (values_of args) (run_from kept replies turns)
+    pub counted_kept : (due : ℕ) (bounds : List Bounds) (n : ℕ) (body : Run → Evaluated ValueTree) (a : Run) →
+        ((b : Run) → R b (body b).run) → R a (counted due bounds n body a).run
+    counted_kept zero bounds n body a h = keeps.same a
+    counted_kept (suc due) bounds n body a h =
+        then_kept a (and_then (captured bounds n a) (λ ks after. scoped ks (body after))) _
+        (then_kept a (captured bounds n a) (λ ks after. scoped ks (body after)) (captured_kept bounds n a) (λ ks b. scoped_kept ks b (body b) (h b)))
+        (λ v b. with_turn_kept b _ (λ c.
+        keeps.trans c (with_visit false work_of_turn c) (counted due bounds (n + 1) body (with_visit false work_of_turn c)).run
+        (takes.visit c false work_of_turn) (counted_kept due bounds (n + 1) body (with_visit false work_of_turn c) h)))
+
+    pub by_turns_kept : (ts : Turns) (bounds : List Bounds) (body : Run → Evaluated ValueTree) (a : Run) → ((b : Run) → R b (body b).run) → R a (by_turns ts bounds body a).run
+    by_turns_kept (Due n) bounds body a h = counted_kept n bounds 0 body a h
+    by_turns_kept (Fails cause) bounds body a h = keeps.same a
+    by_turns_kept NoEnd bounds body a h = keeps.same a
+
+    pub over_kept : (vs : List ValueTree) (o : Option (List Bounds)) (body : Run → Evaluated ValueTree) (a : Run) →
+        ((b : Run) → R b (body b).run) → R a (over_ranges vs o body a).run
+    over_kept vs None body a h = wild_or_stuck_kept (list_any is_undefined vs) a
+    over_kept vs (Some bounds) body a h = by_turns_kept (turns_due bounds) bounds body a h
+
+    module _ (calls : Calls) (called : (f : ℕ) (args : List ValueTree) (a : Run) → R a (calls f args a).run) where
+      mutual
+        pub node_kept : (n : FlowNode) (a : Run) → R a (evaluated calls n a).run
+        node_kept (node counts ty form) a =
+            let b : Run = with_visit counts (work_of form) a in
+            keeps.trans a b (meant calls ty form b).run (takes.visit a counts (work_of form)) (form_kept ty form b)
+
+        pub form_kept : (ty : TypeTree) (form : Form) (a : Run) → R a (meant calls ty form a).run
+        form_kept ty (Constant v) a = keeps.same a
+        form_kept ty (Read (Variable k)) a = read_kept ty (object_of a k) a
+        form_kept ty (Write (Variable k) n) a =
+            then_kept a (evaluated calls n a) _ (node_kept n a) (λ v b. write_kept (type_of n) (object_of b k) v b)
+        form_kept ty (Declare k writable n) a =
+            then_kept a (evaluated calls n a) _ (node_kept n a) (λ v b.
+            keeps.trans b (declared k (type_of n) v writable b) (with_value (type_of n) (declared k (type_of n) v writable b))
+            (declared_kept k (type_of n) v writable b) (value_kept (type_of n) (declared k (type_of n) v writable b)))
+        form_kept ty (Scope ks n) a = scoped_kept ks a (evaluated calls n a) (node_kept n a)
+        form_kept ty (Operate op kids) a =
+            then_kept a (all_evaluated calls kids a) _ (kids_kept kids a) (λ vs b. operated_kept op (types_of kids) ty vs b)
+        form_kept ty (Become n) a = then_kept a (evaluated calls n a) _ (node_kept n a) (λ v b. value_kept (type_of n) b)
+        form_kept ty (Decide logic c d) a =
+            then_kept a (evaluated calls c a) _ (node_kept c a) (λ v b. decided_kept logic v (λ next. evaluated calls d next) b (λ next. node_kept d next))
+        form_kept ty (Choose c d e) a =
+            then_kept a (evaluated calls c a) _ (node_kept c a) (λ v b. by_truth_kept v
+            (λ next. and_then (evaluated calls d next) (λ given last. arrives (type_of d) ty given last))
+            (λ next. and_then (evaluated calls e next) (λ given last. arrives (type_of e) ty given last)) b
+            (λ next. then_kept next (evaluated calls d next) _ (node_kept d next) (λ given last. value_kept ty last))
+            (λ next. then_kept next (evaluated calls e next) _ (node_kept e next) (λ given last. value_kept ty last)))
+        form_kept ty (InOrder kids) a = then_kept a (all_evaluated calls kids a) _ (kids_kept kids a) (λ vs b. keeps.same b)
+        form_kept ty (Target t n) a =
+            let r : Evaluated ValueTree = evaluated calls n a in
+            keeps.trans a r.run (at_target t (type_of n) ty r.end r.run).run (node_kept n a) (at_target_kept t (type_of n) ty r.end r.run)
+        form_kept ty (Leave t n) a = then_kept a (evaluated calls n a) _ (node_kept n a) (λ v b. keeps.same b)
+        form_kept ty (Repeat n) a = repeated_kept a.turns (λ next. evaluated calls n next) a (λ next. node_kept n next)
+        form_kept ty (Count ranges bounds n) a =
+            then_kept a (all_evaluated calls bounds a) _ (kids_kept bounds a)
+            (λ vs b. over_kept vs (bounds_of ranges vs) (λ next. evaluated calls n next) b (λ next. node_kept n next))
+        form_kept ty (Call f args) a = then_kept a (all_evaluated calls args a) _ (kids_kept args a) (λ vs b. called f vs b)
+        form_kept ty (CallHost i args) a =
+            then_kept a (all_evaluated calls args a) _ (kids_kept args a) (λ vs b. host_kept i vs (scalars_of vs) b)
+        form_kept ty (Return n) a = then_kept a (evaluated calls n a) _ (node_kept n a) (λ v b. keeps.same b)
+        form_kept ty (Stop cause) a = keeps.same a
+
+        pub kids_kept : (ns : FlowNodes) (a : Run) → R a (all_evaluated calls ns a).run
+        kids_kept no_nodes a = keeps.same a
+        kids_kept (node_and n ns) a = then_kept a (evaluated calls n a) _ (node_kept n a) (λ v b.
+            then_kept b (all_evaluated calls ns b) _ (kids_kept ns b) (λ vs c. keeps.same c))
+
+    pub body_kept : (calls : Calls) → ((f : ℕ) (args : List ValueTree) (a : Run) → R a (calls f args a).run) → (f : Function) (ks : List ℕ) (b : Run) →
+        R b (body_done f.result (scoped ks (evaluated calls f.body b))).run
+    body_kept calls called f ks b =
+        let s : Evaluated ValueTree = scoped ks (evaluated calls f.body b) in
+        keeps.trans b s.run (returned f.result s.end s.run).run (scoped_kept ks b (evaluated calls f.body b) (node_kept calls called f.body b)) (returned_kept f.result s.end s.run)
+
+    pub entered_kept : (calls : Calls) → ((f : ℕ) (args : List ValueTree) (a : Run) → R a (calls f args a).run) →
+        (f : Function) (args : List ValueTree) (a : Run) → R a (entered calls f args a).run
+    entered_kept calls called f args a =
+        let seen : Run = with_visit true work_of_call a in
+        let own : Run = record seen { variables = replicate (length f.params + length f.vars) None } in
+        let r : Evaluated ValueTree = and_then (bound 0 f.params args own) (λ ks after. body_done f.result (scoped ks (evaluated calls f.body after))) in
+        back_kept a.variables a r
+        (keeps.trans a seen r.run (takes.visit a true work_of_call)
+        (keeps.trans seen own r.run (keeps.objects seen seen.store own.variables)
+        (then_kept own (bound 0 f.params args own) (λ ks after. body_done f.result (scoped ks (evaluated calls f.body after)))
+        (bound_kept 0 f.params args own) (λ ks b. body_kept calls called f ks b))))
+
+    pub found_kept : (calls : Calls) → ((f : ℕ) (args : List ValueTree) (a : Run) → R a (calls f args a).run) →
+        (o : Option Function) (args : List ValueTree) (a : Run) → R a (found_called calls o args a).run
+    found_kept calls called None args a = keeps.same a
+    found_kept calls called (Some f) args a = with_turn_kept a _ (λ next. entered_kept calls called f args next)
+
+    pub calls_kept : (functions : List Function) (room f : ℕ) (args : List ValueTree) (a : Run) → R a (calls_within functions room f args a).run
+    calls_kept functions zero f args a = keeps.same a
+    calls_kept functions (suc room) f args a =
+        found_kept (calls_within functions room) (λ g more b. calls_kept functions room g more b) (slice_get functions f) args a
+
+    pub exported_kept : (depth : ℕ) (p : Functions) (kept : Kept) (o : Option Function) (args : List Scalar) (replies : List ℕ) (turns : ℕ) →
+        R (run_from kept replies turns) (call_of depth p kept o args replies turns).run
+    exported_kept depth p kept None args replies turns = keeps.same (run_from kept replies turns)
+    exported_kept depth p kept (Some f) args replies turns =
+        entered_kept (calls_within p.functions (depth - 1)) (λ g more b. calls_kept p.functions (depth - 1) g more b) f (values_of args) (run_from kept replies turns)
 
 -- ---- it grows
 
@@ -328,12 +331,16 @@ pub growing : IsKept Grows
 growing = record {
   same = λ a. record { turns = omega arith; visits = omega arith; moved = omega arith; work = omega arith; events = prefix_same a.events };
   trans = grows_on;
-  visit = grown_visit;
   bytes = λ a n. record { turns = omega arith; visits = omega arith; moved = omega arith; work = omega arith; events = prefix_same a.events };
-  turned = λ a left e. record { turns = grown_turn a left e; visits = omega arith; moved = omega arith; work = omega arith; events = prefix_same a.events };
   objects = λ a store variables. record { turns = omega arith; visits = omega arith; moved = omega arith; work = omega arith; events = prefix_same a.events };
   reply = λ a r rs e. record { turns = omega arith; visits = omega arith; moved = omega arith; work = omega arith; events = prefix_same a.events };
   event = λ a e. record { turns = omega arith; visits = omega arith; moved = omega arith; work = omega arith; events = prefix_front a.events (e ∷ []) };
+}
+
+pub growing_by_turns : TakesTurns Grows
+growing_by_turns = record {
+  visit = grown_visit;
+  turned = λ a left e. record { turns = grown_turn a left e; visits = omega arith; moved = omega arith; work = omega arith; events = prefix_same a.events };
 }
 
 -- ---- over a session
@@ -366,15 +373,15 @@ session_grows depth p [] kept replies turns = counts_same kept.counts
 session_grows depth p (call ∷ calls) kept replies turns =
     let f : Option Function = exported p call.name in
     let r : Evaluated ValueTree = call_of depth p kept f call.args replies turns in
-    let g : Grows (run_from kept replies turns) r.run = exported_kept Grows growing depth p kept f call.args replies turns in
+    let g : Grows (run_from kept replies turns) r.run = exported_kept Grows growing growing_by_turns depth p kept f call.args replies turns in
     counts_on kept.counts r.run.counts (counts_after (call_end (result_of f) r.end r.run) r.run.counts (λ k rs n. session_counts depth p calls k rs n))
     (record { visits = g.visits; moved = g.moved; work = g.work })
     (end_grows (result_of f) r.end r.run (λ k rs n. session_counts depth p calls k rs n) (λ k rs n. session_grows depth p calls k rs n))
 
 pub runs_grow : RunsGrow
 runs_grow = record {
-  node = λ functions room n run. node_kept Grows growing (calls_within functions room) (λ f args a. calls_kept Grows growing functions room f args a) n run;
-  called = λ functions room f args run. calls_kept Grows growing functions room f args run;
-  exported = λ depth p kept f args replies turns. exported_kept Grows growing depth p kept f args replies turns;
+  node = λ functions room n run. node_kept Grows growing growing_by_turns (calls_within functions room) (λ f args a. calls_kept Grows growing growing_by_turns functions room f args a) n run;
+  called = λ functions room f args run. calls_kept Grows growing growing_by_turns functions room f args run;
+  exported = λ depth p kept f args replies turns. exported_kept Grows growing growing_by_turns depth p kept f args replies turns;
   session = λ depth p calls kept replies turns. session_grows depth p calls kept replies turns;
 }

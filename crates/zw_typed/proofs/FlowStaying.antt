@@ -23,7 +23,7 @@ use Rattle.zw_typed.specs.FlowNodes.{Variable, FlowNode, FlowNodes, node, no_nod
 use Rattle.zw_typed.specs.FlowCounts.{work_of, work_of_turn, work_of_call}
 use Rattle.zw_typed.specs.FlowRanges.{Bounds, bounds_of, Turns, Due, Fails, NoEnd, turns_due}
 use Rattle.zw_typed.specs.FlowRuns.{Run, End, Gives, Leaves, Returns, Stops, Stuck, Evaluated, gives, goes_on, and_then, with_visit, with_value, turn, with_turn, object_of, object_ended, declared, ended, scoped}
-use Rattle.zw_typed.specs.FlowMeanings.{Calls, usize, arrives, read_from, read, stored, written_to, write, wild_or_stuck, outcome_of, operated, by_truth, decided, at_label, at_target, repeated, capture_at, capture_of, captured, counted, by_turns, over_ranges, replied, host_called, evaluated, meant, all_evaluated, bound, is_void, at_end, returned, back, body_done, entered, found_called, calls_within}
+use Rattle.zw_typed.specs.FlowMeanings.{Calls, usize, arrives, read_from, read, stored, written_to, write, wild_or_stuck, outcome_of, operated, by_truth, decided, at_label, at_target, repeated, capture_at, capture_of, captured, counted, by_turns, over_ranges, replied, host_called, evaluated, meant, all_evaluated, bound, returned, back, body_done, entered, found_called, calls_within}
 use Rattle.zw_typed.specs.FlowMachines.{Functions, Kept, run_from, call_of, result_end, call_end, result_of, outcome, exported, functions_machine}
 use Rattle.zw_typed.specs.FlowLaws.{Grows, more_turns, Lasts, RunsStayEnded}
 use Rattle.zw_typed.proofs.FlowGrowth
@@ -95,7 +95,7 @@ suc_more n k = omega arith
 -- a turn: where none was left, it was still running
 turn_same : {V : Type 0} (k n : ℕ) (b : Run) (go go_later : Run → Evaluated V) → b.turns ≡ n →
     ((c : Run) → Same k (go c) (go_later (more_turns k c))) → ((c : Run) → Grows c (go_later c).run) → Same k (turn n b go) (turn (n + k) (more_turns k b) go_later)
-turn_same k zero b go go_later e each grows = (FlowGrowth.turn_kept Grows FlowGrowth.growing (zero + k) (more_turns k b) go_later (ap (λ (n : ℕ). n + k) e) grows).events
+turn_same k zero b go go_later e each grows = (FlowGrowth.turn_kept Grows FlowGrowth.growing FlowGrowth.growing_by_turns (zero + k) (more_turns k b) go_later (ap (λ (n : ℕ). n + k) e) grows).events
 turn_same k (suc left) b go go_later e each grows =
     subst (λ (n : ℕ). Same k (turn (suc left) b go) (turn n (more_turns k b) go_later)) (suc_more left k) (each (record b { turns = left }))
 
@@ -183,14 +183,14 @@ record Lasting {V : Type 0} (k : ℕ) (body : Run → Evaluated V) : Type 0 wher
 visited_grows : {V : Type 0} (go : Run → Evaluated V) → ((b : Run) → Grows b (go b).run) → (c : Run) → Grows c (go (with_visit false work_of_turn c)).run
 visited_grows go grows c =
     let b : Run = with_visit false work_of_turn c in
-    FlowGrowth.growing.trans c b (go b).run (FlowGrowth.growing.visit c false work_of_turn) (grows b)
+    FlowGrowth.growing.trans c b (go b).run (FlowGrowth.growing_by_turns.visit c false work_of_turn) (grows b)
 
 turned_grows : {V : Type 0} (go : Run → Evaluated V) → ((b : Run) → Grows b (go b).run) → (c : Run) → Grows c (with_turn c (λ next. go (with_visit false work_of_turn next))).run
 turned_grows go grows c =
-    FlowGrowth.with_turn_kept Grows FlowGrowth.growing c (λ next. go (with_visit false work_of_turn next)) (λ b. visited_grows go grows b)
+    FlowGrowth.with_turn_kept Grows FlowGrowth.growing FlowGrowth.growing_by_turns c (λ next. go (with_visit false work_of_turn next)) (λ b. visited_grows go grows b)
 
 again_grows : (m : ℕ) (body : Run → Evaluated ValueTree) → ((b : Run) → Grows b (body b).run) → (c : Run) → Grows c (repeated m body c).run
-again_grows m body grows c = FlowGrowth.repeated_kept Grows FlowGrowth.growing m body c grows
+again_grows m body grows c = FlowGrowth.repeated_kept Grows FlowGrowth.growing FlowGrowth.growing_by_turns m body c grows
 
 repeated_out : (k m : ℕ) (body : Run → Evaluated ValueTree) → Lasting k body → (b : Run) → Same k (repeated zero body b) (repeated m body (more_turns k b))
 repeated_out k zero body l b = then_same k (body b) (body (more_turns k b)) _ _ (l.lasts b) (λ v c. prefix_same c.events) (λ v c. FlowGrowth.growing.same c)
@@ -227,7 +227,7 @@ captured_same k [] n b = refl
 captured_same k (x ∷ bs) n b = capture_of_same k x.capture (x.start + n) (λ next. captured bs n next) b (λ c. captured_same k bs n c)
 
 counting_grows : (due : ℕ) (bs : List Bounds) (n : ℕ) (body : Run → Evaluated ValueTree) → ((b : Run) → Grows b (body b).run) → (c : Run) → Grows c (counted due bs n body c).run
-counting_grows due bs n body grows c = FlowGrowth.counted_kept Grows FlowGrowth.growing due bs n body c grows
+counting_grows due bs n body grows c = FlowGrowth.counted_kept Grows FlowGrowth.growing FlowGrowth.growing_by_turns due bs n body c grows
 
 counted_same : (k due : ℕ) (bs : List Bounds) (n : ℕ) (body : Run → Evaluated ValueTree) → Lasting k body → (b : Run) →
     Same k (counted due bs n body b) (counted due bs n body (more_turns k b))
@@ -271,10 +271,10 @@ host_same k i vs (Some args) b = replied_same k i.result b.replies (record b { e
 module _ (k : ℕ) (calls : Calls) (grows : (f : ℕ) (args : List ValueTree) (b : Run) → Grows b (calls f args b).run)
     (lasts : (f : ℕ) (args : List ValueTree) (b : Run) → Same k (calls f args b) (calls f args (more_turns k b))) where
   one_grows : (n : FlowNode) (b : Run) → Grows b (evaluated calls n b).run
-  one_grows n b = FlowGrowth.node_kept Grows FlowGrowth.growing calls grows n b
+  one_grows n b = FlowGrowth.node_kept Grows FlowGrowth.growing FlowGrowth.growing_by_turns calls grows n b
 
   all_grow : (ns : FlowNodes) (b : Run) → Grows b (all_evaluated calls ns b).run
-  all_grow ns b = FlowGrowth.kids_kept Grows FlowGrowth.growing calls grows ns b
+  all_grow ns b = FlowGrowth.kids_kept Grows FlowGrowth.growing FlowGrowth.growing_by_turns calls grows ns b
 
   arm_same : (ty : TypeTree) (n : FlowNode) (b : Run) → Same k (evaluated calls n b) (evaluated calls n (more_turns k b)) →
       Same k (and_then (evaluated calls n b) (λ given last. arrives (type_of n) ty given last))
@@ -334,7 +334,7 @@ module _ (k : ℕ) (calls : Calls) (grows : (f : ℕ) (args : List ValueTree) (b
         then_same k (all_evaluated calls ends b) (all_evaluated calls ends (more_turns k b)) _ _ (kids_same ends b)
         (λ vs c. over_same k vs (bounds_of ranges vs) (λ next. evaluated calls n next)
         (record { grows = λ next. one_grows n next; lasts = λ next. node_same n next }) c)
-        (λ vs c. FlowGrowth.over_kept Grows FlowGrowth.growing vs (bounds_of ranges vs) (λ next. evaluated calls n next) c (λ next. one_grows n next))
+        (λ vs c. FlowGrowth.over_kept Grows FlowGrowth.growing FlowGrowth.growing_by_turns vs (bounds_of ranges vs) (λ next. evaluated calls n next) c (λ next. one_grows n next))
     form_same ty (Call f args) b =
         then_same k (all_evaluated calls args b) (all_evaluated calls args (more_turns k b)) _ _ (kids_same args b) (λ vs c. lasts f vs c) (λ vs c. grows f vs c)
     form_same ty (CallHost i args) b =
@@ -361,14 +361,9 @@ bound_same k n (ty ∷ types) (v ∷ vs) b =
 bound_same k n [] (v ∷ vs) b = refl
 bound_same k n (ty ∷ types) [] b = refl
 
-at_end_same : (k : ℕ) (void : Bool) (b : Run) → Same k (at_end void b) (at_end void (more_turns k b))
-at_end_same k true b = refl
-at_end_same k false b = refl
-
 returned_same : (k : ℕ) (result : TypeTree) (end : End ValueTree) (run : Run) (later : Evaluated ValueTree) → Lasts k end run later →
     Same k (returned result end run) (returned result later.end later.run)
-returned_same k result (Gives v) run later h =
-    subst (λ (l : Evaluated ValueTree). Same k (at_end (is_void result) run) (returned result l.end l.run)) (sym h) (at_end_same k (is_void result) run)
+returned_same k result (Gives v) run later h = ap (λ (l : Evaluated ValueTree). returned result l.end l.run) h
 returned_same k result (Leaves target ty v) run later h = ap (λ (l : Evaluated ValueTree). returned result l.end l.run) h
 returned_same k result (Returns ty v) run later h = ap (λ (l : Evaluated ValueTree). returned result l.end l.run) h
 returned_same k result (Stops (Panicked cause message)) run later h = ap (λ (l : Evaluated ValueTree). returned result l.end l.run) h
@@ -395,7 +390,7 @@ entered_same k calls grows lasts f args b =
     (bound_same k 0 f.params args own)
     (λ ks c. returned_same k f.result (evaluated calls f.body c).end (ended ks (evaluated calls f.body c).run) (scoped ks (evaluated calls f.body (more_turns k c)))
     (scoped_same k ks (evaluated calls f.body c) (evaluated calls f.body (more_turns k c)) (node_same k calls grows lasts f.body c)))
-    (λ ks c. FlowGrowth.body_kept Grows FlowGrowth.growing calls grows f ks c))
+    (λ ks c. FlowGrowth.body_kept Grows FlowGrowth.growing FlowGrowth.growing_by_turns calls grows f ks c))
 
 found_same : (k : ℕ) (calls : Calls) → ((f : ℕ) (args : List ValueTree) (b : Run) → Grows b (calls f args b).run) →
     ((f : ℕ) (args : List ValueTree) (b : Run) → Same k (calls f args b) (calls f args (more_turns k b))) →
@@ -403,10 +398,10 @@ found_same : (k : ℕ) (calls : Calls) → ((f : ℕ) (args : List ValueTree) (b
 found_same k calls grows lasts None args b = refl
 found_same k calls grows lasts (Some f) args b =
     with_turn_same k b (λ next. entered calls f args next) (λ next. entered calls f args next)
-    (λ c. entered_same k calls grows lasts f args c) (λ c. FlowGrowth.entered_kept Grows FlowGrowth.growing calls grows f args c)
+    (λ c. entered_same k calls grows lasts f args c) (λ c. FlowGrowth.entered_kept Grows FlowGrowth.growing FlowGrowth.growing_by_turns calls grows f args c)
 
 calls_grow : (functions : List Function) (room f : ℕ) (args : List ValueTree) (b : Run) → Grows b (calls_within functions room f args b).run
-calls_grow functions room f args b = FlowGrowth.calls_kept Grows FlowGrowth.growing functions room f args b
+calls_grow functions room f args b = FlowGrowth.calls_kept Grows FlowGrowth.growing FlowGrowth.growing_by_turns functions room f args b
 
 calls_same : (k : ℕ) (functions : List Function) (room f : ℕ) (args : List ValueTree) (b : Run) →
     Same k (calls_within functions room f args b) (calls_within functions room f args (more_turns k b))
@@ -464,7 +459,7 @@ machine_stays depth p = record {
   left = λ kept call replies n.
       let f : Option Function = exported p call.name in
       let r : Evaluated ValueTree = call_of depth p kept f call.args replies n in
-      end_within (result_of f) r.end r.run n (FlowGrowth.exported_kept Grows FlowGrowth.growing depth p kept f call.args replies n).turns;
+      end_within (result_of f) r.end r.run n (FlowGrowth.exported_kept Grows FlowGrowth.growing FlowGrowth.growing_by_turns depth p kept f call.args replies n).turns;
 }
 
 pub runs_stay_ended : RunsStayEnded

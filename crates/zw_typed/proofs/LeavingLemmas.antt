@@ -13,8 +13,9 @@ use Rattle.zw_typed.specs.WorkedPrograms.{byte, id}
 use Rattle.zw_typed.specs.FlowNodes as flow
 use Rattle.zw_typed.specs.FlowNodes.{Variable, FlowNode, node, Function}
 use Rattle.zw_typed.specs.FlowMachines.{Functions}
-use Rattle.zw_typed.specs.FlowTypes.{Context, Opened, Fits}
-use Rattle.zw_typed.specs.FlowPrograms.{Read, Leave, Target, Return, NumberedNode, HasForm, IsNumbered, IsInside, context_in, IsFunction, IsHostFunction, IsExport, IsWellFormed}
+use Rattle.zw_typed.specs.FlowTypes.{Context, Opened, Fits, context_in, parameters_from}
+use Rattle.zw_typed.specs.FlowNeeds.{IsFunctionPaid}
+use Rattle.zw_typed.specs.FlowPrograms.{Read, Leave, Target, Return, NumberedNode, HasForm, IsNumbered, IsInside, IsFunction, IsHostFunction, IsExport, IsWellFormed}
 use Rattle.zw_typed.specs.WorkedFlowPrograms.{numbered, leaving, leaving_outside, needing_later, read_body, WorkedFlowPrograms}
 use Rattle.zw_typed.proofs.CallingLemmas.{none_pairs, one, types}
 
@@ -44,17 +45,24 @@ leaves = node true tree.NoReturnType (flow.Leave 0 gets)
 abbrev block : FlowNode
 block = node true byte (flow.Target 0 leaves)
 
-gets_fits : (around : List Opened) → Fits within around gets
-gets_fits around = refl
+abbrev live : List ℕ
+live = 0 ∷ []
 
-leaves_fits : Fits within opened leaves
-leaves_fits = (refl, (byte, refl, inr (1, byte_row)), gets_fits opened)
+gets_fits : (around : List Opened) → Fits within around live gets
+gets_fits around = (omega arith, record { declared = refl; there = refl })
 
-block_fits : Fits within [] block
-block_fits = (refl, inl refl, leaves_fits)
+leaves_fits : Fits within opened live leaves
+leaves_fits = (tt, (refl, (byte, refl, inr (1, byte_row)), gets_fits opened))
 
-body_fits : Fits within [] (read_body 0)
-body_fits = (refl, inr (1, byte_row), block_fits)
+block_fits : Fits within [] live block
+block_fits = (omega arith, (refl, inl refl, leaves_fits))
+
+body_fits : Fits within [] live (read_body 0)
+body_fits = (tt, (refl, inr (1, byte_row), block_fits))
+
+-- the body needs 4 + 4 + 4 + 4 of work, and begins with four visits
+body_paid : IsFunctionPaid (whole 0)
+body_paid = record { turns = tt; body = omega arith }
 
 abbrev Numbered : NumberedNode → Type 0
 Numbered n = IsNumbered leaving n
@@ -85,22 +93,22 @@ leaving-well_formed = record {
     vars = All-nil (HasForm leaving);
     result = inl byte_form;
     few = omega arith;
-    nodes = All-cons Numbered reading (going ∷ taking ∷ giving ∷ []) (record { types = tt; kids_listed = omega arith })
-        (All-cons Numbered going (taking ∷ giving ∷ []) (record { types = tt; kids_listed = omega arith })
-        (All-cons Numbered taking (giving ∷ []) (record { types = tt; kids_listed = omega arith }) (one Numbered giving (record { types = tt; kids_listed = omega arith }))));
+    nodes = All-cons Numbered reading (going ∷ taking ∷ giving ∷ []) (record { types = tt; form_listed = tt; kids_listed = omega arith })
+        (All-cons Numbered going (taking ∷ giving ∷ []) (record { types = tt; form_listed = tt; kids_listed = omega arith })
+        (All-cons Numbered taking (giving ∷ []) (record { types = tt; form_listed = tt; kids_listed = omega arith }) (one Numbered giving (record { types = tt; form_listed = tt; kids_listed = omega arith }))));
     nodes_listed = omega arith;
     trees = gets ∷ leaves ∷ block ∷ read_body 0 ∷ [];
     trees_are = refl;
     read = whole 0;
     is = refl;
-    each = All-cons Inside gets (leaves ∷ block ∷ read_body 0 ∷ []) (record { around = []; fits = gets_fits [] })
-        (All-cons Inside leaves (block ∷ read_body 0 ∷ []) (record { around = opened; fits = leaves_fits })
-        (All-cons Inside block (read_body 0 ∷ []) (record { around = []; fits = block_fits }) (one Inside (read_body 0) (record { around = []; fits = body_fits }))));
-    fits = body_fits;
-    ends = inr refl;
+    each = All-cons Inside gets (leaves ∷ block ∷ read_body 0 ∷ []) (record { around = []; live = live; fits = gets_fits [] })
+        (All-cons Inside leaves (block ∷ read_body 0 ∷ []) (record { around = opened; live = live; fits = leaves_fits })
+        (All-cons Inside block (read_body 0 ∷ []) (record { around = []; live = live; fits = block_fits }) (one Inside (read_body 0) (record { around = []; live = live; fits = body_fits }))));
+    fits = record { body = body_fits; ends = inr refl };
+    paid = body_paid;
   });
   imports = All-nil (IsHostFunction leaving);
-  exports = one (IsExport (whole 0 ∷ [])) _ (record { func = (refl, refl); name = refl });
+  exports = one (IsExport (whole 0 ∷ [])) _ (record { func = (refl, refl); name = refl; name_listed = omega arith });
   names = AllPairs-cons (λ (a b : Export). a.name ≡ b.name → ⊥) _ [] (All-nil _) (none_pairs (λ (a b : Export). a.name ≡ b.name → ⊥));
   types_listed = omega arith;
   functions_listed = omega arith;
@@ -114,14 +122,14 @@ same_function f g e = cc
 none_open : (to : TypeTree) → None ≡ Some to → ⊥
 none_open to e = cc
 
-never_fits : (functions : List Function) → Fits (context_in functions (whole 1)) [] (read_body 1) → ⊥
-never_fits functions h = none_open h.2.2.1.0 h.2.2.1.1
+never_fits : (functions : List Function) → Fits (context_in functions (whole 1)) [] live (read_body 1) → ⊥
+never_fits functions h = none_open h.1.2.1.2.1.1.0 h.1.2.1.2.1.1.1
 
 not_outside : IsWellFormed leaving_outside → ⊥
 not_outside w =
     let f = All-head (IsFunction leaving_outside w.read.functions) _ [] w.functions in
     never_fits w.read.functions
-    (subst (λ (g : Function). Fits (context_in w.read.functions g) [] g.body) (sym (same_function (whole 1) f.read f.is)) f.fits)
+    (subst (λ (g : Function). Fits (context_in w.read.functions g) [] (parameters_from 0 g.params) g.body) (sym (same_function (whole 1) f.read f.is)) f.fits.body)
 
 none_read : (read : Functions) → None ≡ Some read → ⊥
 none_read read e = cc

@@ -3,4 +3,7 @@ pub mod CallingLemmas
 pub mod NameLemmas
 pub mod FlowGrowth
 pub mod FlowStaying
+pub mod FlowPaying
 pub mod LeavingLemmas
+pub mod ResultLemmas
+pub mod OperatorLemmas

@@ -1,14 +1,19 @@
 -- What holds of evaluating nodes, of calls and of sessions, as statements that are proved as laws.
-use Rattle.std.specs.Prelude.{◌≡◌, ℕ, ◌+◌, ◌≤◌, List, Option}
+use Rattle.std.specs.Prelude.{◌≡◌, ℕ, ◌+◌, ◌*◌, ◌≤◌, List, slice_get, Option, Some}
 use Rattle.zw_session.specs.Lists.{IsPrefix}
 use Rattle.zw_session.specs.Sessions.{Scalar, Call, Panicked, WantsReply, Running, Wild, Trapped}
 use Rattle.zw_session.specs.Bounds.{StaysEnded, SessionsStayEnded}
-use Rattle.zw_types.specs.TypeTrees.{ValueTree}
+use Rattle.zw_num.specs.declared.operator.Operator.{Operator}
+use Rattle.zw_types.specs.TypeTrees.{TypeTree, ValueTree}
+use Rattle.zw_values.specs.Applied.{applied}
+use Rattle.zw_typed.specs.ValueTypes.{AreValuesOf}
+use Rattle.zw_typed.specs.FlowTypes.{IsRunType, OperatesOn, ComesTo}
 use Rattle.zw_typed.specs.FlowNodes.{FlowNode, Function}
 use Rattle.zw_typed.specs.FlowCounts.{Counts}
 use Rattle.zw_typed.specs.FlowRuns.{Run, End, Gives, Leaves, Returns, Stops, Stuck, Evaluated}
 use Rattle.zw_typed.specs.FlowMeanings.{evaluated, calls_within}
-use Rattle.zw_typed.specs.FlowMachines.{Functions, Kept, call_of, functions_machine, run_from, session_counts}
+use Rattle.zw_typed.specs.FlowMachines.{Named, Functions, Kept, at_first, call_of, functions_machine, run_from, session_counts, session_turns}
+use Rattle.zw_typed.specs.FlowNeeds.{paid_work, first_visits, need, AreTurnsPaid, IsFunctionPaid}
 
 -- Turns that are left only fall, what is counted only grows, and host calls come behind the earlier ones.
 pub record Grows (before after : Run) : Type 0 where
@@ -58,3 +63,33 @@ pub record RunsStayEnded : Type 0 where
       Lasts k (calls_within functions room f args run).end (calls_within functions room f args run).run (calls_within functions room f args (more_turns k run))
   pub machine : (depth : ℕ) (p : Functions) → StaysEnded (functions_machine depth p)
   pub sessions : (depth : ℕ) (p : Functions) → SessionsStayEnded (functions_machine depth p)
+
+-- From one run to a later one: beside a visit for each turn that was taken there are so many first visits; and visits and moved bytes in between,
+-- beside those first ones, pay for the work, but for what is owed.
+pub record Pays (first owed : ℕ) (before after : Run) : Type 0 where
+  pub turns : before.counts.visits + before.turns + first ≤ after.counts.visits + after.turns
+  pub work : after.counts.work + paid_work * (before.counts.visits + before.counts.moved) + paid_work * first ≤
+      before.counts.work + paid_work * (after.counts.visits + after.counts.moved) + owed
+
+-- each function that is there pays
+abbrev pub AreFunctionsPaid : List Function → Type 0
+AreFunctionsPaid functions = (k : ℕ) (f : Function) → slice_get functions k ≡ Some f → IsFunctionPaid f
+
+-- Where turns and functions are paid: a node begins with its first visits and needs no more than is computed of it; a call needs nothing; and
+-- a session counts at least as many visits as it takes turns, and visits and moved bytes pay for its work.
+pub record VisitsPay (functions : List Function) : Type 0 where
+  pub node : (room : ℕ) (n : FlowNode) (run : Run) → AreTurnsPaid n → Pays (first_visits n) (need n) run (evaluated (calls_within functions room) n run).run
+  pub called : (room f : ℕ) (args : List ValueTree) (run : Run) → Pays 0 0 run (calls_within functions room f args run).run
+  pub turns : (exports : List Named) (depth : ℕ) (calls : List Call) (kept : Kept) (replies : List ℕ) (turns : ℕ) →
+      let p : Functions = record { functions = functions; exports = exports } in
+      kept.counts.visits + session_turns depth p calls kept replies turns ≤ (session_counts depth p calls kept replies turns).visits
+  pub work : (exports : List Named) (depth : ℕ) (calls : List Call) (replies : List ℕ) (turns : ℕ) →
+      let p : Functions = record { functions = functions; exports = exports } in
+      let c : Counts = session_counts depth p calls at_first replies turns in
+      c.work ≤ paid_work * (c.visits + c.moved)
+
+-- An operator on values of types that it is for gives a value of its type, or panics.
+abbrev pub OperatorsCome : Type 0
+OperatorsCome =
+    (op : Operator) (kids : List TypeTree) (ty : TypeTree) → OperatesOn op kids ty → IsRunType ty → (values : List ValueTree) → AreValuesOf kids values →
+    ComesTo ty (applied op kids ty values)

@@ -1,6 +1,6 @@
 -- What the exported functions of a list of functions mean: a machine whose calls evaluate a body, and what its sessions count. The bound is turns,
 -- over the whole session.
-use Rattle.std.specs.Prelude.{ℕ, ◌-◌, List, [], ◌∷◌, slice_get, Option, Some, None, if◌then◌else◌, Bool, false}
+use Rattle.std.specs.Prelude.{ℕ, ◌+◌, ◌-◌, List, [], ◌∷◌, slice_get, Option, Some, None, if◌then◌else◌, Bool, false}
 use Rattle.std.specs.Str.{bytes_eq}
 use Rattle.zw_session.specs.Sessions.{Scalar, Call, Wild, Trapped, CallEnd, Returned, Halted, Outcome, Machine}
 use Rattle.zw_types.specs.TypeTrees as tree
@@ -98,3 +98,14 @@ session_counts depth p [] kept replies turns = kept.counts
 session_counts depth p (call ∷ calls) kept replies turns =
     let r : Evaluated ValueTree = call_of depth p kept (exported p call.name) call.args replies turns in
     counts_after (call_end (result_of (exported p call.name)) r.end r.run) r.run.counts (session_counts depth p calls)
+
+abbrev pub turns_after : CallEnd Kept → (Kept → List ℕ → ℕ → ℕ) → ℕ
+turns_after (Returned value kept replies left) go = go kept replies left
+turns_after (Halted halt) go = 0
+
+-- the turns that the session of these calls takes
+abbrev pub session_turns : ℕ → Functions → List Call → Kept → List ℕ → ℕ → ℕ
+session_turns depth p [] kept replies turns = 0
+session_turns depth p (call ∷ calls) kept replies turns =
+    let r : Evaluated ValueTree = call_of depth p kept (exported p call.name) call.args replies turns in
+    (turns - r.run.turns) + turns_after (call_end (result_of (exported p call.name)) r.end r.run) (session_turns depth p calls)

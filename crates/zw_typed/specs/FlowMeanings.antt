@@ -199,18 +199,9 @@ bound k (ty ∷ types) (value ∷ values) run =
     and_then (bound (k + 1) types values (with_value ty (declared k ty value false run))) (λ ks after. gives (k ∷ ks) after)
 bound k _ _ run = stuck run
 
-abbrev pub is_void : TypeTree → Bool
-is_void tree.VoidType = true
-is_void _ = false
-
--- a body that comes to its end has returned nothing
-abbrev pub at_end : Bool → Run → Evaluated ValueTree
-at_end true run = gives nothing run
-at_end false run = stuck run
-
--- a call's value is what its body returns, as one of the function's result
+-- a call's value is what its body returns, as one of the function's result; a body that comes to its end returns what it gives
 abbrev pub returned : TypeTree → End ValueTree → Run → Evaluated ValueTree
-returned result (Gives value) run = at_end (is_void result) run
+returned result (Gives value) run = arrives result result value run
 returned result (Leaves target ty value) run = stuck run
 returned result (Returns ty value) run = arrives ty result value run
 returned result (Stops halt) run = stops halt run

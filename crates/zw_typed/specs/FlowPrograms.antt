@@ -18,7 +18,8 @@ use Rattle.zw_typed.specs.Programs.{import_read, types_at, IsListed}
 use Rattle.zw_typed.specs.FlowNodes as flow
 use Rattle.zw_typed.specs.FlowNodes.{Variable, Range, FlowNode, node, Function, Form, nodes_from, type_of}
 use Rattle.zw_typed.specs.FlowMachines.{Named, Functions}
-use Rattle.zw_typed.specs.FlowTypes.{Signature, Context, Opened, Fits}
+use Rattle.zw_typed.specs.FlowTypes.{Context, Opened, Fits, context_in, FunctionFits}
+use Rattle.zw_typed.specs.FlowNeeds.{IsFunctionPaid}
 
 -- What a node does; what it needs are the nodes with these numbers, in order: of a `Choose` the condition and both arms, of a `Count` the body,
 -- and then starts and ends.
@@ -155,24 +156,25 @@ abbrev pub MentionsTypes : FlowProgram → NodeForm → Type 0
 MentionsTypes p (Constant value) = All (λ k. k < length p.types.trees) (types_in value)
 MentionsTypes p _ = Unit {0}
 
+-- what a node names in a list of its own
+abbrev pub IsFormListed : NodeForm → Type 0
+IsFormListed (Scope ks) = IsListed ks
+IsFormListed (Count ranges) = IsListed ranges
+IsFormListed _ = Unit {0}
+
 pub record IsNumbered (p : FlowProgram) (n : NumberedNode) : Type 0 where
   pub types : MentionsTypes p n.form
+  pub form_listed : IsFormListed n.form
   pub kids_listed : IsListed n.kids
 
-abbrev pub signature : Function → Signature
-signature f = record { params = f.params; result = f.result }
-
-abbrev pub context_in : List Function → Function → Context
-context_in functions f =
-    record { params = length f.params; variables = f.params ++ f.vars; result = f.result; functions = map signature functions }
-
--- the node fits where some targets are open
+-- the node fits where some targets are open and some variables declared
 pub record IsInside (c : Context) (n : FlowNode) : Type 0 where
   pub around : List Opened
-  pub fits : Fits c around n
+  pub live : List ℕ
+  pub fits : Fits c around live n
 
--- A function by numbers, among these functions as they are read: its variables have a form at run time, each node fits where some targets are
--- open, and the body where none is; and that gives what the function gives or never comes to its end.
+-- A function by numbers, among these functions as they are read: its variables have a form at run time, each node fits somewhere, the body
+-- fits, and its visits pay for its work.
 pub record IsFunction (p : FlowProgram) (functions : List Function) (n : NumberedFunction) : Type 0 where
   pub params : All (HasForm p) n.params
   pub vars : All (HasForm p) n.vars
@@ -185,16 +187,18 @@ pub record IsFunction (p : FlowProgram) (functions : List Function) (n : Numbere
   pub read : Function
   pub is : function_read p.types.trees p.imports n ≡ Some read
   pub each : All (λ (m : FlowNode). IsInside (context_in functions read) m) trees
-  pub fits : Fits (context_in functions read) [] read.body
-  pub ends : (type_of read.body ≡ read.result) ⊎ (type_of read.body ≡ tree.NoReturnType)
+  pub fits : FunctionFits functions read
+  pub paid : IsFunctionPaid read
 
 -- a function of the host has types that the host sees, and a name in UTF-8
 pub record IsHostFunction (p : FlowProgram) (f : HostFunc) : Type 0 where
   pub params : All (HasForm p) f.params
+  pub params_listed : IsListed f.params
   pub result : HasForm p f.result
   pub shown : IsTrue (all_types is_shown_type (types_at p.types.trees f.params))
   pub gives : IsTrue (is_result_type (type_at p.types.trees f.result))
   pub name : IsTrue (is_utf8_name f.name)
+  pub name_listed : IsListed f.name
 
 -- an exported function is there, and has types that the host sees
 abbrev pub IsShown : Option Function → Type 0
@@ -204,6 +208,7 @@ IsShown (Some f) = IsTrue (all_types is_exported_type f.params) × IsTrue (is_re
 pub record IsExport (functions : List Function) (e : Export) : Type 0 where
   pub func : IsShown (slice_get functions e.func)
   pub name : IsTrue (is_export_name e.name)
+  pub name_listed : IsListed e.name
 
 -- The types are a table, the program can be read, its functions fit, what the host sees is of types that it can see, and no two exports have one
 -- name.

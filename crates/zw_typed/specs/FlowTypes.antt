@@ -1,15 +1,19 @@
--- Which nodes fit into a function of a program: by what they do, the types of what they need, and the targets that are open round them (Zig
--- Language Reference 0.13.0, Blocks, while, for, if, Functions).
-use Rattle.std.specs.Prelude.{◌≡◌, ◌≤◌, ◌⊎◌, ℕ, suc, Bool, true, false, nat_eq, if◌then◌else◌, List, [], ◌∷◌, length, slice_get, All, Option, Some, None, Ok}
+-- Which nodes fit into a function of a program: by what they do, the types of what they need, the targets that are open round them, and the
+-- variables that are declared in front of them (Zig Language Reference 0.13.0, Blocks, while, for, if, Functions).
+use Rattle.std.specs.Prelude.{◌≡◌, ◌≤◌, ◌⊎◌, ◌+◌, ℕ, suc, IsTrue, Bool, true, false, nat_eq, if◌then◌else◌, List, [], ◌∷◌, ◌++◌, length, map, slice_get, All, Option, Some, None, Ok}
 use Rattle.zw_num.specs.declared.operator.Operator.{Operator}
 use Rattle.zw_num.specs.declared.operator.Operator.TheVariants as family
 use Rattle.zw_num.specs.declared.operator.Shift.TheVariants.{ShlSat}
 use Rattle.zw_types.specs.TypeTrees as tree
 use Rattle.zw_types.specs.TypeTrees.{TypeTree, ValueTree}
-use Rattle.zw_values.specs.Coercions.{coercion}
-use Rattle.zw_typed.specs.ValueTypes.{IsValueOf}
+use Rattle.zw_values.specs.Applied as operation
+use Rattle.zw_values.specs.Applied.{Outcome}
+use Rattle.zw_values.specs.Coercions.{coercion, is_no_return}
+use Rattle.zw_typed.specs.HostTypes.{is_shown_type, is_result_type, all_types}
+use Rattle.zw_typed.specs.Nodes.{Import}
+use Rattle.zw_typed.specs.ValueTypes.{HasWidths, IsValueOf}
 use Rattle.zw_typed.specs.NodeTypes.{IsSized, IsStatement, OperandsFit}
-use Rattle.zw_typed.specs.FlowNodes.{Variable, Range, FlowNode, FlowNodes, node, no_nodes, node_and, Form, Constant, Read, Write, Declare, Scope, Operate, Become, Decide, Choose, InOrder, Target, Leave, Repeat, Count, Call, CallHost, Return, Stop, type_of, types_of}
+use Rattle.zw_typed.specs.FlowNodes.{Variable, Range, FlowNode, FlowNodes, node, no_nodes, node_and, Function, Form, Constant, Read, Write, Declare, Scope, Operate, Become, Decide, Choose, InOrder, Target, Leave, Repeat, Count, Call, CallHost, Return, Stop, type_of, types_of}
 use Rattle.zw_typed.specs.FlowMeanings.{usize}
 
 pub record Signature : Type 0 where
@@ -32,15 +36,42 @@ abbrev pub target_type : List Opened → ℕ → Option TypeTree
 target_type [] t = None
 target_type (o ∷ around) t = if nat_eq o.target t then Some o.ty else target_type around t
 
--- a variable that is no parameter, of this type
-pub record IsOwn (c : Context) (ty : TypeTree) (k : ℕ) : Type 0 where
-  pub behind : c.params ≤ k
+-- ---- variables
+
+abbrev pub is_among : List ℕ → ℕ → Bool
+is_among [] k = false
+is_among (l ∷ ls) k = if nat_eq l k then true else is_among ls k
+
+abbrev mutual
+  -- The variables that are declared behind a node that comes to its end, where these were in front of it. What is declared inside another form than
+  -- these is named inside it alone.
+  pub behind : List ℕ → FlowNode → List ℕ
+  behind live (node counts ty form) = behind_form live form
+
+  pub behind_form : List ℕ → Form → List ℕ
+  behind_form live (Declare k writable n) = k ∷ live
+  behind_form live (InOrder kids) = behind_all live kids
+  behind_form live _ = live
+
+  pub behind_all : List ℕ → FlowNodes → List ℕ
+  behind_all live no_nodes = live
+  behind_all live (node_and n ns) = behind_all (behind live n) ns
+
+-- a variable of this type that is declared
+pub record IsLive (c : Context) (live : List ℕ) (ty : TypeTree) (k : ℕ) : Type 0 where
+  pub declared : is_among live k ≡ true
   pub there : slice_get c.variables k ≡ Some ty
 
+-- a variable that is no parameter, of this type, and isn't declared so far
+pub record IsNew (c : Context) (live : List ℕ) (ty : TypeTree) (k : ℕ) : Type 0 where
+  pub behind : c.params ≤ k
+  pub there : slice_get c.variables k ≡ Some ty
+  pub new : is_among live k ≡ false
+
 -- one of any type
-pub record IsEnded (c : Context) (k : ℕ) : Type 0 where
+pub record IsEnded (c : Context) (live : List ℕ) (k : ℕ) : Type 0 where
   pub ty : TypeTree
-  pub own : IsOwn c ty k
+  pub own : IsNew c live ty k
 
 -- ---- operands
 
@@ -58,6 +89,13 @@ KnownFits _ kids ty = ⊥
 
 abbrev pub OperatesOn : Operator → List TypeTree → TypeTree → Type 0
 OperatesOn op kids ty = OperandsFit op kids ty ⊎ KnownFits op kids ty
+
+-- what an operator may come to at run time: a value of its type, or a panic
+abbrev pub ComesTo : TypeTree → Outcome → Type 0
+ComesTo ty (operation.Gives v) = IsValueOf ty v
+ComesTo ty (operation.Panics cause) = Unit {0}
+ComesTo ty operation.IsWild = ⊥
+ComesTo ty (operation.Passes limit) = ⊥
 
 -- ---- joins
 
@@ -86,46 +124,122 @@ abbrev pub some_has_end : List Range → Bool
 some_has_end [] = false
 some_has_end (r ∷ ranges) = if r.has_end then true else some_has_end ranges
 
-abbrev pub CaptureFits : Context → Option ℕ → Type 0
-CaptureFits c None = Unit {0}
-CaptureFits c (Some k) = IsOwn c usize k
+-- the captures of a `for` are new variables, each one of its own
+abbrev pub with_capture : List ℕ → Option ℕ → List ℕ
+with_capture live None = live
+with_capture live (Some k) = k ∷ live
 
-pub record AreRanges (c : Context) (ranges : List Range) (bounds : List TypeTree) : Type 0 where
+abbrev pub CaptureFits : Context → List ℕ → Option ℕ → Type 0
+CaptureFits c live None = Unit {0}
+CaptureFits c live (Some k) = IsNew c live usize k
+
+abbrev pub with_captures : List ℕ → List (Option ℕ) → List ℕ
+with_captures live [] = live
+with_captures live (k ∷ ks) = with_captures (with_capture live k) ks
+
+abbrev pub CapturesFit : Context → List ℕ → List (Option ℕ) → Type 0
+CapturesFit c live [] = Unit {0}
+CapturesFit c live (k ∷ ks) = CaptureFits c live k × CapturesFit c (with_capture live k) ks
+
+abbrev pub captures_of : List Range → List (Option ℕ)
+captures_of ranges = map (λ r. r.capture) ranges
+
+pub record AreRanges (c : Context) (live : List ℕ) (ranges : List Range) (bounds : List TypeTree) : Type 0 where
   pub as_many : length bounds ≡ bounds_taken ranges
   pub numbers : All (λ ty. ty ≡ usize) bounds
   pub ends : some_has_end ranges ≡ true
-  pub captures : All (λ (r : Range). CaptureFits c r.capture) ranges
+  pub captures : CapturesFit c live (captures_of ranges)
+
+-- ---- types
+
+-- a type that a node has that isn't known: it has a form at run time (of other types there are no values there yet), or the node never comes to
+-- its end
+abbrev pub IsRunType : TypeTree → Type 0
+IsRunType (tree.IntType signed bits size) = bits ≤ 64
+IsRunType tree.BoolType = Unit {0}
+IsRunType tree.VoidType = Unit {0}
+IsRunType tree.NoReturnType = Unit {0}
+IsRunType _ = ⊥
+
+-- so a `comptime_int` is a constant
+abbrev pub TypeFits : Form → TypeTree → Type 0
+TypeFits (Constant value) ty = HasWidths ty
+TypeFits _ ty = IsRunType ty
+
+abbrev pub never_ends : List TypeTree → Bool
+never_ends [] = false
+never_ends (ty ∷ types) = if is_no_return ty then true else never_ends types
+
+-- nodes in order never come to their end only where one of them doesn't
+abbrev pub EndsAs : TypeTree → List TypeTree → Type 0
+EndsAs tree.VoidType types = Unit {0}
+EndsAs tree.NoReturnType types = never_ends types ≡ true
+EndsAs _ types = ⊥
+
+-- a function of the host has types that the host sees
+pub record IsHostImport (import : Import) : Type 0 where
+  pub shown : IsTrue (all_types is_shown_type import.params)
+  pub gives : IsTrue (is_result_type import.result)
+
+-- the panics that a node stands for: all but the one with a message, and the one of too many calls
+abbrev pub IsStopCause : ℕ → Type 0
+IsStopCause cause = (1 ≤ cause) × (cause ≤ 17)
 
 -- ---- nodes
 
 abbrev mutual
-  -- the node fits where these targets are open: what leaves stands inside the target that it names
-  pub Fits : Context → List Opened → FlowNode → Type 0
-  Fits c around (node counts ty form) = FormFits c around ty form
+  -- the node fits where these targets are open, and these variables declared: what leaves stands inside the target that it names
+  pub Fits : Context → List Opened → List ℕ → FlowNode → Type 0
+  Fits c around live (node counts ty form) = TypeFits form ty × FormFits c around live ty form
 
-  pub FormFits : Context → List Opened → TypeTree → Form → Type 0
-  FormFits c around ty (Constant value) = IsValueOf ty value
-  FormFits c around ty (Read (Variable k)) = slice_get c.variables k ≡ Some ty
-  FormFits c around ty (Write (Variable k) n) = (ty ≡ tree.VoidType) × (slice_get c.variables k ≡ Some (type_of n)) × Fits c around n
-  FormFits c around ty (Declare k writable n) = (ty ≡ tree.VoidType) × IsOwn c (type_of n) k × Fits c around n
-  FormFits c around ty (Scope ks n) = (ty ≡ type_of n) × All (λ k. IsEnded c k) ks × Fits c around n
-  FormFits c around ty (Operate op kids) = OperatesOn op (types_of kids) ty × AllFit c around kids
-  FormFits c around ty (Become n) = Becomes ty n × Fits c around n
-  FormFits c around ty (Decide logic a b) =
-      (ty ≡ tree.BoolType) × (type_of a ≡ tree.BoolType) × ((type_of b ≡ tree.BoolType) ⊎ (type_of b ≡ tree.NoReturnType)) × Fits c around a × Fits c around b
-  FormFits c around ty (Choose d a b) = (type_of d ≡ tree.BoolType) × IsJoined ty a × IsJoined ty b × Fits c around d × Fits c around a × Fits c around b
-  FormFits c around ty (InOrder kids) = IsStatement ty × All IsStatement (types_of kids) × AllFit c around kids
-  FormFits c around ty (Target t n) = (target_type around t ≡ None) × IsJoined ty n × Fits c (record { target = t; ty = ty } ∷ around) n
-  FormFits c around ty (Leave t n) =
-      (ty ≡ tree.NoReturnType) × ((to : TypeTree) × (target_type around t ≡ Some to) × IsJoined to n) × Fits c around n
-  FormFits c around ty (Repeat n) = (ty ≡ tree.NoReturnType) × IsStatement (type_of n) × Fits c around n
-  FormFits c around ty (Count ranges bounds n) =
-      (ty ≡ tree.VoidType) × AreRanges c ranges (types_of bounds) × IsStatement (type_of n) × AllFit c around bounds × Fits c around n
-  FormFits c around ty (Call f args) = (slice_get c.functions f ≡ Some (record { params = types_of args; result = ty })) × AllFit c around args
-  FormFits c around ty (CallHost import args) = (ty ≡ import.result) × (types_of args ≡ import.params) × AllFit c around args
-  FormFits c around ty (Return n) = (ty ≡ tree.NoReturnType) × IsJoined c.result n × Fits c around n
-  FormFits c around ty (Stop cause) = ty ≡ tree.NoReturnType
+  pub FormFits : Context → List Opened → List ℕ → TypeTree → Form → Type 0
+  FormFits c around live ty (Constant value) = IsValueOf ty value
+  FormFits c around live ty (Read (Variable k)) = IsLive c live ty k
+  FormFits c around live ty (Write (Variable k) n) = (ty ≡ tree.VoidType) × IsLive c live (type_of n) k × Fits c around live n
+  FormFits c around live ty (Declare k writable n) = (ty ≡ tree.VoidType) × IsNew c live (type_of n) k × Fits c around live n
+  FormFits c around live ty (Scope ks n) = (ty ≡ type_of n) × All (λ k. IsEnded c live k) ks × Fits c around live n
+  FormFits c around live ty (Operate op kids) = OperatesOn op (types_of kids) ty × AllFit c around live kids
+  FormFits c around live ty (Become n) = Becomes ty n × Fits c around live n
+  FormFits c around live ty (Decide logic a b) =
+      (ty ≡ tree.BoolType) × (type_of a ≡ tree.BoolType) × ((type_of b ≡ tree.BoolType) ⊎ (type_of b ≡ tree.NoReturnType)) ×
+      Fits c around live a × Fits c around live b
+  FormFits c around live ty (Choose d a b) =
+      (type_of d ≡ tree.BoolType) × IsJoined ty a × IsJoined ty b × Fits c around live d × Fits c around live a × Fits c around live b
+  FormFits c around live ty (InOrder kids) = EndsAs ty (types_of kids) × All IsStatement (types_of kids) × AllFit c around live kids
+  FormFits c around live ty (Target t n) =
+      (target_type around t ≡ None) × IsJoined ty n × Fits c (record { target = t; ty = ty } ∷ around) live n
+  FormFits c around live ty (Leave t n) =
+      (ty ≡ tree.NoReturnType) × ((to : TypeTree) × (target_type around t ≡ Some to) × IsJoined to n) × Fits c around live n
+  FormFits c around live ty (Repeat n) = (ty ≡ tree.NoReturnType) × IsStatement (type_of n) × Fits c around live n
+  FormFits c around live ty (Count ranges bounds n) =
+      (ty ≡ tree.VoidType) × AreRanges c live ranges (types_of bounds) × IsStatement (type_of n) × AllFit c around live bounds ×
+      Fits c around (with_captures live (captures_of ranges)) n
+  FormFits c around live ty (Call f args) =
+      (slice_get c.functions f ≡ Some (record { params = types_of args; result = ty })) × AllFit c around live args
+  FormFits c around live ty (CallHost import args) =
+      IsHostImport import × (ty ≡ import.result) × (types_of args ≡ import.params) × AllFit c around live args
+  FormFits c around live ty (Return n) = (ty ≡ tree.NoReturnType) × IsJoined c.result n × Fits c around live n
+  FormFits c around live ty (Stop cause) = (ty ≡ tree.NoReturnType) × IsStopCause cause
 
-  pub AllFit : Context → List Opened → FlowNodes → Type 0
-  AllFit c around no_nodes = Unit {0}
-  AllFit c around (node_and n ns) = Fits c around n × AllFit c around ns
+  pub AllFit : Context → List Opened → List ℕ → FlowNodes → Type 0
+  AllFit c around live no_nodes = Unit {0}
+  AllFit c around live (node_and n ns) = Fits c around live n × AllFit c around (behind live n) ns
+
+-- ---- functions
+
+abbrev pub signature : Function → Signature
+signature f = record { params = f.params; result = f.result }
+
+abbrev pub context_in : List Function → Function → Context
+context_in functions f =
+    record { params = length f.params; variables = f.params ++ f.vars; result = f.result; functions = map signature functions }
+
+-- the numbers of parameters of these types, from one on
+abbrev pub parameters_from : ℕ → List TypeTree → List ℕ
+parameters_from k [] = []
+parameters_from k (ty ∷ types) = k ∷ parameters_from (k + 1) types
+
+-- The body fits where no target is open and the parameters are declared; and it gives what the function gives, or never comes to its end.
+pub record FunctionFits (functions : List Function) (f : Function) : Type 0 where
+  pub body : Fits (context_in functions f) [] (parameters_from 0 f.params) f.body
+  pub ends : (type_of f.body ≡ f.result) ⊎ (type_of f.body ≡ tree.NoReturnType)

@@ -16,5 +16,6 @@ pub mod FlowMachines
 pub mod WorkedFlow
 pub mod FlowLaws
 pub mod FlowTypes
+pub mod FlowNeeds
 pub mod FlowPrograms
 pub mod WorkedFlowPrograms

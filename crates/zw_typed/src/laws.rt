@@ -3,7 +3,8 @@ ghost use Rattle.std.specs.Prelude.{◌≡◌, ℕ, List};
 ghost use Rattle.std.specs.Str.{is_utf8};
 ghost use Rattle.zw_session.specs.Bounds.{StaysEnded};
 ghost use Rattle.zw_typed.specs.Exports.{Exported, exports_machine};
-ghost use Rattle.zw_typed.specs.FlowLaws.{RunsGrow, RunsStayEnded};
+ghost use Rattle.zw_typed.specs.FlowLaws.{RunsGrow, RunsStayEnded, AreFunctionsPaid, OperatorsCome, VisitsPay};
+ghost use Rattle.zw_typed.specs.FlowNodes.{Function};
 ghost use Rattle.zw_typed.specs.HostTypes.{is_utf8_name};
 ghost use Rattle.zw_typed.specs.WorkedFlow.{WorkedFlow};
 ghost use Rattle.zw_typed.specs.WorkedFlowPrograms.{WorkedFlowPrograms};
@@ -43,4 +44,15 @@ pub fn runs_stay_ended()
 /// A program by numbers with a block that is left, and two that aren't well-formed, worked out by hand.
 pub fn flow_programs_are_worked()
     ensures { WorkedFlowPrograms }
+{}
+
+/// Where turns and functions are paid, a session counts at least as many visits as it takes turns, and its work is at most 256 times its visits
+/// and moved bytes together.
+pub fn visits_pay()
+    ensures { (functions : List Function) → AreFunctionsPaid functions → VisitsPay functions }
+{}
+
+/// An operator on values of types that it is for gives a value of its type, or panics.
+pub fn operators_come_to_values()
+    ensures { OperatorsCome }
 {}
