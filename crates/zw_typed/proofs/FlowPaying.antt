@@ -1,5 +1,5 @@
 -- Visits pay: for turns, and with moved bytes for work. By the calls that may be active, then the node, and loops by the turns that are left.
-use Rattle.std.proofs.Common.{◌≡◌, refl, ℕ, zero, suc, ◌+◌, ◌*◌, ◌≤◌, Bool, true, false, List, [], ◌∷◌, ◌++◌, Option, Some, None, arith}
+use Rattle.std.proofs.Common.{◌≡◌, refl, ℕ, zero, suc, ◌+◌, ◌*◌, ◌≤◌, true, false, List, [], ◌∷◌, Option, Some, None, arith}
 use Rattle.std.specs.Prelude.{◌-◌, length, replicate, slice_get}
 use Rattle.zw_session.specs.Sessions as sessions
 use Rattle.zw_session.specs.Sessions.{Scalar}
@@ -13,8 +13,8 @@ use Rattle.zw_typed.specs.FlowCounts.{Counts, work_of, work_of_turn, work_of_cal
 use Rattle.zw_typed.specs.FlowRanges.{Bounds, bounds_of, Turns, Due, Fails, NoEnd, turns_due}
 use Rattle.zw_typed.specs.FlowRuns.{Run, End, Gives, Leaves, Returns, Stops, Stuck, Evaluated, gives, goes_on, and_then, with_visit, with_value, turn, with_turn, object_of, declared, ended, scoped}
 use Rattle.zw_typed.specs.FlowMeanings.{Calls, arrives, by_truth, decided, at_target, repeated, captured, counted, by_turns, over_ranges, evaluated, meant, all_evaluated, bound, returned, back, body_done, entered, found_called, calls_within}
-use Rattle.zw_typed.specs.FlowMachines.{Named, Functions, Kept, at_first, number_named, function_numbered, kept_by, run_from, call_of, call_end, result_end, result_of, exported, counts_after, turns_after, session_counts, session_turns}
-use Rattle.zw_typed.specs.FlowNeeds.{paid_work, first_visits, visits_in, visits_among, need, need_in, need_left, need_among, need_later, IsTurnPaid, AreTurnsPaid, FormTurnsPaid, AllTurnsPaid, IsFunctionPaid}
+use Rattle.zw_typed.specs.FlowMachines.{Functions, Kept, at_first, number_named, function_numbered, kept_by, run_from, call_of, call_end, result_end, result_of, exported, counts_after, turns_after, session_counts, session_turns}
+use Rattle.zw_typed.specs.FlowNeeds.{paid_work, first_visits, visits_in, visits_among, need, need_in, need_left, need_among, need_later, AreTurnsPaid, FormTurnsPaid, AllTurnsPaid, IsFunctionPaid}
 use Rattle.zw_typed.specs.FlowLaws.{Grows, Pays, AreFunctionsPaid, VisitsPay}
 use Rattle.zw_typed.proofs.FlowGrowth.{IsKept}
 use Rattle.zw_typed.proofs.FlowGrowth

@@ -13,7 +13,7 @@ use Rattle.zw_typed.specs.WorkedPrograms.{byte, id}
 use Rattle.zw_typed.specs.FlowNodes as flow
 use Rattle.zw_typed.specs.FlowNodes.{Variable, FlowNode, node, Function}
 use Rattle.zw_typed.specs.FlowMachines.{Functions}
-use Rattle.zw_typed.specs.FlowTypes.{Context, Opened, Fits, context_in, parameters_from}
+use Rattle.zw_typed.specs.FlowTypes.{Context, Opened, Fits, context_in, with_parameters}
 use Rattle.zw_typed.specs.FlowNeeds.{IsFunctionPaid}
 use Rattle.zw_typed.specs.FlowPrograms.{Read, Leave, Target, Return, NumberedNode, HasForm, IsNumbered, IsInside, IsFunction, IsHostFunction, IsExport, IsWellFormed}
 use Rattle.zw_typed.specs.WorkedFlowPrograms.{numbered, leaving, leaving_outside, needing_later, read_body, WorkedFlowPrograms}
@@ -129,7 +129,7 @@ not_outside : IsWellFormed leaving_outside → ⊥
 not_outside w =
     let f = All-head (IsFunction leaving_outside w.read.functions) _ [] w.functions in
     never_fits w.read.functions
-    (subst (λ (g : Function). Fits (context_in w.read.functions g) [] (parameters_from 0 g.params) g.body) (sym (same_function (whole 1) f.read f.is)) f.fits.body)
+    (subst (λ (g : Function). Fits (context_in w.read.functions g) [] (with_parameters [] 0 g.params) g.body) (sym (same_function (whole 1) f.read f.is)) f.fits.body)
 
 none_read : (read : Functions) → None ≡ Some read → ⊥
 none_read read e = cc

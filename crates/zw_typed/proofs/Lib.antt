@@ -7,3 +7,7 @@ pub mod FlowPaying
 pub mod LeavingLemmas
 pub mod ResultLemmas
 pub mod OperatorLemmas
+pub mod StateLemmas
+pub mod JoinLemmas
+pub mod FlowSoundness
+pub mod FlowFitting

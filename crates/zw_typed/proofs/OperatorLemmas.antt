@@ -1,5 +1,5 @@
 -- An operator on values of types that fit it gives a value of its type, or panics.
-use Rattle.std.proofs.Common.{◌≡◌, ◌⊎◌, inl, inr, refl, ℕ, ◌+◌, ◌*◌, ◌^◌, ◌<◌, ◌≤◌, ℤ, pos, Bool, true, false, List, [], ◌∷◌, sym, subst, arith}
+use Rattle.std.proofs.Common.{◌≡◌, inl, inr, refl, ℕ, ◌^◌, ◌<◌, ◌≤◌, ℤ, pos, Bool, true, false, List, [], ◌∷◌, sym, subst, arith}
 use Rattle.std.specs.Prelude.{Result, Ok, Err, All}
 use Rattle.std.proofs.lemmas.Int.{ints}
 use Rattle.std.proofs.lemmas.List.Elements.{All-head, All-tail}
@@ -23,12 +23,12 @@ use Rattle.zw_num.specs.declared.operator.Shift.{Shift}
 use Rattle.zw_num.specs.declared.operator.Shift.TheVariants as by
 use Rattle.zw_num.specs.declared.operator.Unary.{Unary}
 use Rattle.zw_num.specs.declared.operator.Unary.TheVariants as one
-use Rattle.zw_num.specs.Arithmetic.{IsType, IsIn, pattern, width}
+use Rattle.zw_num.specs.Arithmetic.{IsType, IsIn, pattern}
 use Rattle.zw_num.specs.Meanings.{arithmetic, division, bitwise, shift, unary, counted, extreme, converted}
 use Rattle.zw_num.proofs.WrappedLemmas.{wrapped_in}
 use Rattle.zw_types.specs.TypeTrees as tree
 use Rattle.zw_types.specs.TypeTrees.{TypeTree, ValueTree}
-use Rattle.zw_values.specs.Applied.{Outcome, Gives, Panics, IsWild, Passes, outcome_of, outcome_of_fault, of_two_numbers, of_number, on_integers, on_integer, on_one, on_two, equality, compared_values, count_on_value, extreme_from, extreme_of, applied}
+use Rattle.zw_values.specs.Applied.{outcome_of, outcome_of_fault, on_integers, on_integer, on_two, equality, compared_values, extreme_from, extreme_of, applied}
 use Rattle.zw_typed.specs.ValueTypes.{IsNumberIn, IsValueOf, AreValuesOf}
 use Rattle.zw_typed.specs.NodeTypes.{IsSized, IsUnsigned, IsSigned, HasWholeBytes, DivisionFits, IsCutTo, HasSameBits, IsMagnitude, UnaryFits, CountFits, IsEquality, OrderFits, CastFits, LogicFits, OperandsFit}
 use Rattle.zw_typed.specs.FlowTypes.{IsRunType, OneIsKnown, KnownFits, OperatesOn, ComesTo}

@@ -1,14 +1,16 @@
 -- What holds of evaluating nodes, of calls and of sessions, as statements that are proved as laws.
-use Rattle.std.specs.Prelude.{◌≡◌, ℕ, ◌+◌, ◌*◌, ◌≤◌, List, slice_get, Option, Some}
+use Rattle.std.specs.Prelude.{◌≡◌, ℕ, ◌+◌, ◌*◌, ◌≤◌, List, map, slice_get, Option, Some}
 use Rattle.zw_session.specs.Lists.{IsPrefix}
-use Rattle.zw_session.specs.Sessions.{Scalar, Call, Panicked, WantsReply, Running, Wild, Trapped}
+use Rattle.zw_session.specs.Sessions.{Scalar, Call, Panicked, WantsReply, Running, Wild, Trapped, SessionEnd, Finished, Ended, AllFit, session}
 use Rattle.zw_session.specs.Bounds.{StaysEnded, SessionsStayEnded}
 use Rattle.zw_num.specs.declared.operator.Operator.{Operator}
 use Rattle.zw_types.specs.TypeTrees.{TypeTree, ValueTree}
 use Rattle.zw_values.specs.Applied.{applied}
-use Rattle.zw_typed.specs.ValueTypes.{AreValuesOf}
-use Rattle.zw_typed.specs.FlowTypes.{IsRunType, OperatesOn, ComesTo}
-use Rattle.zw_typed.specs.FlowNodes.{FlowNode, Function}
+use Rattle.zw_values.specs.ObjectStore.{Store}
+use Rattle.zw_typed.specs.ValueTypes.{IsValueOf, AreValuesOf}
+use Rattle.zw_typed.specs.FlowTypes.{Opened, behind, IsRunType, OperatesOn, ComesTo, Fits, signature, context_in, FunctionFits}
+use Rattle.zw_typed.specs.FlowStates.{IsState, HaltFits, EndFits, CallsFit}
+use Rattle.zw_typed.specs.FlowNodes.{FlowNode, Function, type_of}
 use Rattle.zw_typed.specs.FlowCounts.{Counts}
 use Rattle.zw_typed.specs.FlowRuns.{Run, End, Gives, Leaves, Returns, Stops, Stuck, Evaluated}
 use Rattle.zw_typed.specs.FlowMeanings.{evaluated, calls_within}
@@ -93,3 +95,27 @@ abbrev pub OperatorsCome : Type 0
 OperatorsCome =
     (op : Operator) (kids : List TypeTree) (ty : TypeTree) → OperatesOn op kids ty → IsRunType ty → (values : List ValueTree) → AreValuesOf kids values →
     ComesTo ty (applied op kids ty values)
+
+-- each function that is there fits
+abbrev pub AreFunctionsFit : List Function → Type 0
+AreFunctionsFit functions = (k : ℕ) (f : Function) → slice_get functions k ≡ Some f → FunctionFits functions f
+
+-- Where functions fit: a node that fits gives a value of its type, with the variables declared that are behind it; what leaves and returns has a
+-- value of the type that it comes to; and nothing is stuck or wild, nor is a call on arguments of the parameters' types.
+pub record NodesFit (functions : List Function) : Type 0 where
+  pub node : (f : Function) (room : ℕ) (outer : Store) (around : List Opened) (live : List ℕ) (n : FlowNode) → Fits (context_in functions f) around live n → (run : Run) →
+      IsState (context_in functions f) outer live run.store run.variables →
+      let r : Evaluated ValueTree = evaluated (calls_within functions room) n run in
+      EndFits (context_in functions f) outer around live
+      (λ value after. IsValueOf (type_of n) value × IsState (context_in functions f) outer (behind live n) after.store after.variables) r.end r.run
+  pub called : (room : ℕ) → CallsFit (map signature functions) (calls_within functions room)
+
+abbrev pub SessionFits : SessionEnd → Type 0
+SessionFits Finished = Unit {0}
+SessionFits (Ended halt) = HaltFits halt
+
+-- A session of calls that fit is never stuck and never wild: it finishes, panics, wants a reply, or is still running.
+abbrev pub NeverStuck : Functions → Type 0
+NeverStuck p =
+    (depth : ℕ) (calls : List Call) → AllFit (functions_machine depth p) calls → (kept : Kept) (replies : List ℕ) (turns : ℕ) →
+    SessionFits (session (functions_machine depth p) calls kept replies turns).end

@@ -1,6 +1,6 @@
 -- That visits pay for work: each visit and each byte that is moved pays for 256 of it. What a node needs is computed from the node, with the
 -- visits that it begins with; and a turn of a loop, and a call, need no more than what they begin with pays for (this project's own).
-use Rattle.std.specs.Prelude.{◌≤◌, ◌+◌, ◌-◌, ◌*◌, ℕ, suc, Bool, true, false}
+use Rattle.std.specs.Prelude.{◌≤◌, ◌+◌, ◌-◌, ◌*◌, ℕ, suc, true, false}
 use Rattle.zw_typed.specs.FlowNodes.{FlowNode, FlowNodes, node, no_nodes, node_and, Function, Form, Constant, Read, Write, Declare, Scope, Operate, Become, Decide, Choose, InOrder, Target, Leave, Repeat, Count, Call, CallHost, Return, Stop}
 use Rattle.zw_typed.specs.FlowCounts.{work_of, work_of_turn, work_of_call}
 

@@ -234,12 +234,12 @@ abbrev pub context_in : List Function → Function → Context
 context_in functions f =
     record { params = length f.params; variables = f.params ++ f.vars; result = f.result; functions = map signature functions }
 
--- the numbers of parameters of these types, from one on
-abbrev pub parameters_from : ℕ → List TypeTree → List ℕ
-parameters_from k [] = []
-parameters_from k (ty ∷ types) = k ∷ parameters_from (k + 1) types
+-- with the parameters of these types, from a number on
+abbrev pub with_parameters : List ℕ → ℕ → List TypeTree → List ℕ
+with_parameters live k [] = live
+with_parameters live k (ty ∷ types) = with_parameters (k ∷ live) (k + 1) types
 
 -- The body fits where no target is open and the parameters are declared; and it gives what the function gives, or never comes to its end.
 pub record FunctionFits (functions : List Function) (f : Function) : Type 0 where
-  pub body : Fits (context_in functions f) [] (parameters_from 0 f.params) f.body
+  pub body : Fits (context_in functions f) [] (with_parameters [] 0 f.params) f.body
   pub ends : (type_of f.body ≡ f.result) ⊎ (type_of f.body ≡ tree.NoReturnType)

@@ -17,5 +17,6 @@ pub mod WorkedFlow
 pub mod FlowLaws
 pub mod FlowTypes
 pub mod FlowNeeds
+pub mod FlowStates
 pub mod FlowPrograms
 pub mod WorkedFlowPrograms

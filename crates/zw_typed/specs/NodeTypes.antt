@@ -1,5 +1,5 @@
 -- Which types the kids of a node have, by what it does, at run time (Zig Language Reference 0.13.0, Operators, Builtin Functions).
-use Rattle.std.specs.Prelude.{◌≡◌, ◌≢◌, ◌<◌, ◌≤◌, ℕ, ◌+◌, ◌*◌, ◌%◌, ◌^◌, true, false, List, [], ◌∷◌, slice_get, All, Option, Some, None, Ok}
+use Rattle.std.specs.Prelude.{◌≡◌, ◌≢◌, ◌<◌, ◌≤◌, ℕ, ◌+◌, ◌*◌, ◌%◌, ◌^◌, true, false, List, [], ◌∷◌, slice_get, All, Some, None, Ok}
 use Rattle.zw_num.specs.declared.operator.Cast.{Cast}
 use Rattle.zw_num.specs.declared.operator.Cast.TheVariants as cast
 use Rattle.zw_num.specs.declared.operator.Comparison.{Comparison}

@@ -3,8 +3,9 @@ ghost use Rattle.std.specs.Prelude.{◌≡◌, ℕ, List};
 ghost use Rattle.std.specs.Str.{is_utf8};
 ghost use Rattle.zw_session.specs.Bounds.{StaysEnded};
 ghost use Rattle.zw_typed.specs.Exports.{Exported, exports_machine};
-ghost use Rattle.zw_typed.specs.FlowLaws.{RunsGrow, RunsStayEnded, AreFunctionsPaid, OperatorsCome, VisitsPay};
+ghost use Rattle.zw_typed.specs.FlowLaws.{RunsGrow, RunsStayEnded, AreFunctionsFit, NodesFit, NeverStuck, AreFunctionsPaid, VisitsPay, OperatorsCome};
 ghost use Rattle.zw_typed.specs.FlowNodes.{Function};
+ghost use Rattle.zw_typed.specs.FlowPrograms.{FlowProgram, IsWellFormed};
 ghost use Rattle.zw_typed.specs.HostTypes.{is_utf8_name};
 ghost use Rattle.zw_typed.specs.WorkedFlow.{WorkedFlow};
 ghost use Rattle.zw_typed.specs.WorkedFlowPrograms.{WorkedFlowPrograms};
@@ -46,13 +47,22 @@ pub fn flow_programs_are_worked()
     ensures { WorkedFlowPrograms }
 {}
 
-/// Where turns and functions are paid, a session counts at least as many visits as it takes turns, and its work is at most 256 times its visits
-/// and moved bytes together.
-pub fn visits_pay()
-    ensures { (functions : List Function) → AreFunctionsPaid functions → VisitsPay functions }
-{}
-
 /// An operator on values of types that it is for gives a value of its type, or panics.
 pub fn operators_come_to_values()
     ensures { OperatorsCome }
+{}
+
+/// Where functions fit, as those of a well-formed program do, a node that fits gives a value of its type, with the variables declared that are
+/// behind it; and no session of calls that fit is stuck or wild.
+pub fn programs_are_never_stuck()
+    ensures nodes { (functions : List Function) → AreFunctionsFit functions → NodesFit functions }
+    ensures functions { (p : FlowProgram) (w : IsWellFormed p) → AreFunctionsFit w.read.functions }
+    ensures sessions { (p : FlowProgram) (w : IsWellFormed p) → NeverStuck w.read }
+{}
+
+/// Where turns and functions are paid, as those of a well-formed program are, a session counts at least as many visits as it takes turns, and
+/// its work is at most 256 times its visits and moved bytes together.
+pub fn visits_pay()
+    ensures sessions { (functions : List Function) → AreFunctionsPaid functions → VisitsPay functions }
+    ensures functions { (p : FlowProgram) (w : IsWellFormed p) → AreFunctionsPaid w.read.functions }
 {}
