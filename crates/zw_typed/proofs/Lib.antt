@@ -11,3 +11,4 @@ pub mod StateLemmas
 pub mod JoinLemmas
 pub mod FlowSoundness
 pub mod FlowFitting
+pub mod FitLemmas

@@ -20,3 +20,4 @@ pub mod FlowNeeds
 pub mod FlowStates
 pub mod FlowPrograms
 pub mod WorkedFlowPrograms
+pub mod WorkedFits

@@ -7,6 +7,7 @@ ghost use Rattle.zw_typed.specs.FlowLaws.{RunsGrow, RunsStayEnded, AreFunctionsF
 ghost use Rattle.zw_typed.specs.FlowNodes.{Function};
 ghost use Rattle.zw_typed.specs.FlowPrograms.{FlowProgram, IsWellFormed};
 ghost use Rattle.zw_typed.specs.HostTypes.{is_utf8_name};
+ghost use Rattle.zw_typed.specs.WorkedFits.{WorkedFits};
 ghost use Rattle.zw_typed.specs.WorkedFlow.{WorkedFlow};
 ghost use Rattle.zw_typed.specs.WorkedFlowPrograms.{WorkedFlowPrograms};
 ghost use Rattle.zw_typed.specs.WorkedPrograms.{WorkedPrograms};
@@ -45,6 +46,11 @@ pub fn runs_stay_ended()
 /// A program by numbers with a block that is left, and two that aren't well-formed, worked out by hand.
 pub fn flow_programs_are_worked()
     ensures { WorkedFlowPrograms }
+{}
+
+/// A function with a variable and a loop that fits and is paid, and nodes that don't fit, worked out by hand.
+pub fn fits_are_worked()
+    ensures { WorkedFits }
 {}
 
 /// An operator on values of types that it is for gives a value of its type, or panics.
