@@ -1,5 +1,5 @@
 -- The function that is worked out by hand fits and is paid, and nodes that differ in one thing don't fit.
-use Rattle.std.proofs.Common.{◌≡◌, refl, ℕ, ◌≤◌, List, [], ◌∷◌, None, Some, true, false, inl, inr, pos, arith}
+use Rattle.std.proofs.Common.{◌≡◌, refl, ℕ, ◌≤◌, List, [], ◌∷◌, None, true, false, inl, inr, arith}
 use Rattle.std.specs.Prelude.{All, Ok}
 use Rattle.std.proofs.lemmas.Int.{ints}
 use Rattle.std.proofs.lemmas.List.Elements.{All-nil, All-cons, All-head}
@@ -8,9 +8,9 @@ use Rattle.zw_types.specs.TypeTrees.{TypeTree}
 use Rattle.zw_values.specs.Coercions.{coercion}
 use Rattle.zw_values.specs.Sameness.{is_same}
 use Rattle.zw_typed.specs.NodeTypes.{IsStatement}
-use Rattle.zw_typed.specs.FlowNodes.{FlowNode, node, nodes_from, Scope, Choose, InOrder, Target, Leave, Repeat, Stop}
+use Rattle.zw_typed.specs.FlowNodes.{node, nodes_from, Scope, Choose, InOrder, Target, Leave, Stop}
 use Rattle.zw_typed.specs.FlowMeanings.{usize}
-use Rattle.zw_typed.specs.FlowTypes.{Opened, IsEnded, Fits, AllFit}
+use Rattle.zw_typed.specs.FlowTypes.{Opened, IsEnded, Fits}
 use Rattle.zw_typed.specs.FlowNeeds.{AreTurnsPaid}
 use Rattle.zw_typed.specs.WorkedFlow.{u8, number, position, truth, get, set, plus, less, block, give, none, loop}
 use Rattle.zw_typed.specs.WorkedFits.{block_out, declare, counts_up, turn_of, within, literal, with_positions, over_two, WorkedFits}

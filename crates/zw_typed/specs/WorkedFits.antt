@@ -1,5 +1,5 @@
 -- A function with a variable and a loop that fits, and whose visits pay, worked out by hand; and nodes that differ from what fits in one thing.
-use Rattle.std.specs.Prelude.{◌≡◌, ℕ, pos, true, false, List, [], ◌∷◌, Some, None}
+use Rattle.std.specs.Prelude.{◌≡◌, ℕ, pos, true, false, List, [], ◌∷◌, Some}
 use Rattle.zw_types.specs.TypeTrees as tree
 use Rattle.zw_types.specs.TypeTrees.{TypeTree}
 use Rattle.zw_typed.specs.FlowNodes.{FlowNode, node, nodes_from, Function, Constant, Declare, Scope, Choose, InOrder, Repeat, Count, Stop}
