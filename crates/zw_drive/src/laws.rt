@@ -26,7 +26,7 @@ pub fn sessions_stay_ended()
 {}
 
 /// A call makes part of a session of a file exactly where it has the name of an exported function, as many arguments as
-/// that has parameters, and each of them from 0 to 2^32 - 1.
+/// that has parameters, and each of them from -2^31 to 2^32 - 1: any number of 32 bits, with a sign or without one.
 pub fn sessions_are_of_fitting_calls()
     ensures { (trees : List Tree) → SessionsAreOfFittingCalls trees }
 {}

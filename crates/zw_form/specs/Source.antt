@@ -1,9 +1,10 @@
 -- What a file of the form means: the values of its sums, and a machine whose calls return at once.
-use Rattle.std.specs.Prelude.{ℕ, ◌%◌, ◌^◌, pos, negsuc, Bool, false, ◌&&◌, nat_eq, nat_lt, List, [], ◌∷◌, ◌++◌, length, map, Option, Some, None, if◌then◌else◌}
+use Rattle.std.specs.Prelude.{ℕ, ◌%◌, ◌^◌, pos, Bool, false, ◌&&◌, nat_eq, List, [], ◌∷◌, ◌++◌, length, map, Option, Some, None, if◌then◌else◌}
 use Rattle.std.specs.List.{list_all}
 use Rattle.std.specs.Str.{bytes_eq}
 use Rattle.zw_num.specs.Arithmetic.{sum_in, difference_in, add_wrap_unsigned}
 use Rattle.zw_session.specs.Causes.{integer_overflow}
+use Rattle.zw_session.specs.Incoming.{is_word, modulo}
 use Rattle.zw_session.specs.Sessions.{Scalar, Number, Truth, HostEvent, Call, Halt, Panicked, WantsReply, Wild, CallEnd, Returned, Halted, Outcome, Machine}
 use Rattle.zw_form.specs.Trees.{Sum, Parameter, Operate, Result, Sums, NoSum, More, CallStatement, Body, Tree, Extern, Export}
 use Rattle.zw_form.specs.Trees as terms
@@ -92,16 +93,14 @@ body_value values body replies =
 
 -- ---- calls from outside
 
--- a value of the type `u32`
-abbrev pub is_u32 : Scalar → Bool
-is_u32 (Number (pos n)) = nat_lt n (2 ^ 32)
-is_u32 (Number (negsuc n)) = false
-is_u32 (Truth b) = false
+-- whether a host can hand this over where a `u32` is wanted: any number of 32 bits, with a sign or without one
+abbrev pub comes_in : Scalar → Bool
+comes_in (Number z) = is_word 32 z
+comes_in (Truth b) = false
 
--- the number of such a value
+-- the `u32` that comes in so: the number modulo the width of its type
 abbrev pub number_of : Scalar → ℕ
-number_of (Number (pos n)) = n
-number_of (Number (negsuc n)) = 0
+number_of (Number z) = modulo 32 z
 number_of (Truth b) = 0
 
 -- the value of the parameter with this name
@@ -130,9 +129,9 @@ extern_named (Export own params body ∷ trees) name = extern_named trees name
 
 abbrev pub args_fit : Option Exported → List Scalar → Bool
 args_fit None args = false
-args_fit (Some f) args = nat_eq (length args) (length f.params) && list_all is_u32 args
+args_fit (Some f) args = nat_eq (length args) (length f.params) && list_all comes_in args
 
--- the call is of an exported function, and has a value of its type for each parameter
+-- the call is of an exported function, and has a number for each parameter
 abbrev pub source_fits : List Tree → Call → Bool
 source_fits trees call = args_fit (export_named trees call.name) call.args
 

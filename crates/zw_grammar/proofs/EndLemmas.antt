@@ -8,6 +8,7 @@ use Rattle.std.proofs.lemmas.List.{reverse-reverse}
 use Rattle.std.proofs.lemmas.Option.{slice_get_within}
 use Rattle.zw_grammar.specs.Plain.{PlainRule}
 use Rattle.zw_grammar.specs.declared.builder.Builder.{Builder}
+use Rattle.zw_grammar.specs.declared.builder.Built.{Built}
 use Rattle.zw_grammar.specs.declared.grammar.Symbol.{Symbol}
 use Rattle.zw_grammar.specs.declared.grammar.Symbol.TheVariants.{Take, Read, Build}
 use Rattle.zw_grammar.specs.declared.machine.End.{End}
@@ -17,7 +18,7 @@ use Rattle.zw_grammar.specs.declared.machine.Turn.TheVariants.{Taken, Refused, B
 use Rattle.zw_grammar.specs.Building.{Building, marked, nothing}
 use Rattle.zw_grammar.specs.Completions.{Completion, text_of, bound_of, fits, all_complete}
 use Rattle.zw_grammar.specs.Ends.{IsText, StopsAt, Ends}
-use Rattle.zw_grammar.specs.Nodes.{Holds}
+use Rattle.zw_grammar.specs.Nodes.{HoldsBehind}
 use Rattle.zw_grammar.specs.Reading.{Reading, Leads, after, step, choice}
 use Rattle.zw_grammar.specs.Reading.Leads.{here}
 use Rattle.zw_grammar.specs.Texts.{begins}
@@ -29,17 +30,17 @@ use Rattle.zw_grammar.proofs.ReadingLemmas.{further}
 use Rattle.zw_grammar.proofs.StepLemmas.{and-both}
 
 -- what is kept up to a terminal: each text that agrees up to it leads there
-pub record Kept (rules : List PlainRule) (start : List Symbol) (text : List ℕ) (cs : List Completion) (end from at : ℕ) (stack : List Symbol) (into : Builder) : Type 0 where
+pub record Kept (rules : List PlainRule) (start : List Symbol) (text : List ℕ) (cs : List Completion) (end from at : ℕ) (stack : List Symbol) (older : List Built) (into : Builder) : Type 0 where
   pub building : Building
   pub leads : (other : List ℕ) → Agree at text other → Leads rules other (begins start from) (reading stack at building)
-  pub holds : Holds into building
+  pub holds : HoldsBehind older into building
   pub flat : building.passed ≡ None
   pub fitting : fits cs end (reverse stack) end ≡ true
   pub not_end : (k : ℕ) → suc k ≡ at → from ≤ k → slice_get text k ≡ Some end → ⊥
 
-pub kept_first : (rules : List PlainRule) (start : List Symbol) (text : List ℕ) (t : IsText rules start text) (from : ℕ) (stack : List Symbol) (into : Builder) →
-    stack ≡ reverse start → Holds into nothing → Kept rules start text t.complete.completions t.end from from stack into
-kept_first rules start text t from stack into e holds =
+pub kept_first : (rules : List PlainRule) (start : List Symbol) (text : List ℕ) (t : IsText rules start text) (from : ℕ) (stack : List Symbol) (older : List Built) (into : Builder) →
+    stack ≡ reverse start → HoldsBehind older into nothing → Kept rules start text t.complete.completions t.end from from stack older into
+kept_first rules start text t from stack older into e holds =
     let back : reverse stack ≡ start = ap reverse e ∙ reverse-reverse start in
     let same : begins start from ≡ reading stack from nothing = ap (λ (s : List Symbol). record { stack = s; next = from; building = nothing }) (sym back) in
     record {
@@ -83,10 +84,10 @@ take_no_end rules text cs end (Build mark ∷ rest) next b s fitting e more ther
     let same : record { stack = rest; next = next; building = marked text next mark b } ≡ s = cc in
     let at : next ≡ s.next = ap (λ (r : Reading). r.next) same in omega arith
 
-pub kept_more : (rules : List PlainRule) (start : List Symbol) (text : List ℕ) (cs : List Completion) (end from at : ℕ) (stack taken : List Symbol) (old new : Builder) →
-    all_complete cs end rules cs ≡ true → (kept : Kept rules start text cs end from at stack old) →
-    Takes rules text (reading stack at kept.building) taken at new → new.passed ≡ None → Kept rules start text cs end from (suc at) taken new
-kept_more rules start text cs end from at stack taken old new all kept takes none =
+pub kept_more : (rules : List PlainRule) (start : List Symbol) (text : List ℕ) (cs : List Completion) (end from at : ℕ) (stack taken : List Symbol) (older : List Built) (old new : Builder) →
+    all_complete cs end rules cs ≡ true → (kept : Kept rules start text cs end from at stack older old) →
+    Takes rules text (reading stack at kept.building) taken at older new → new.passed ≡ None → Kept rules start text cs end from (suc at) taken older new
+kept_more rules start text cs end from at stack taken older old new all kept takes none =
     let m = takes.before in
     let b = kept.building in
     let s = reading taken (suc at) m.building in
@@ -131,11 +132,11 @@ front_there (suc n) (x ∷ xs) more le = λ k.
     ap (λ (j : ℕ). slice_get (x ∷ (take n xs ++ more)) j) same ∙ front_there n xs more (omega arith) k
 
 -- where a reading can't go on, its terminal is wrong
-wrong_at : (rules : List PlainRule) (start : List Symbol) (text : List ℕ) (cs : List Completion) (end from at : ℕ) (stack : List Symbol) (old new : Builder) →
-    all_complete cs end rules cs ≡ true → (kept : Kept rules start text cs end from at stack old) →
-    (sticks : Sticks rules text (reading stack at kept.building) at new) → at < length text →
+wrong_at : (rules : List PlainRule) (start : List Symbol) (text : List ℕ) (cs : List Completion) (end from at : ℕ) (stack : List Symbol) (older : List Built) (old new : Builder) →
+    all_complete cs end rules cs ≡ true → (kept : Kept rules start text cs end from at stack older old) →
+    (sticks : Sticks rules text (reading stack at kept.building) at older new) → at < length text →
     ((place : ℕ) → sticks.at.building.passed ≡ Some place → at ≤ place) → StopsAt rules start text from at
-wrong_at rules start text cs end from at stack old new all kept sticks less late =
+wrong_at rules start text cs end from at stack older old new all kept sticks less late =
     let b = kept.building in
     let s = sticks.at in
     let more = text_of cs (reverse stack) ++ (end ∷ []) in
@@ -196,10 +197,10 @@ above : (m n : ℕ) → nat_le m n ≡ false → n < m
 above m n e = grind (arith, common_steps)
 
 -- with the end that is told
-pub ended : (rules : List PlainRule) (start : List Symbol) (text : List ℕ) (cs : List Completion) (end from at : ℕ) (stack left : List Symbol) (old new : Builder) (turn : Turn) (how : End) →
-    all_complete cs end rules cs ≡ true → (kept : Kept rules start text cs end from at stack old) →
-    Turns rules text (reading stack at kept.building) at turn left new → at < length text → end_of turn new.passed at ≡ Some how → Ends rules start text from new how
-ended rules start text cs end from at stack left old new turn how all kept turned less e = go turn new.passed refl turned e
+pub ended : (rules : List PlainRule) (start : List Symbol) (text : List ℕ) (cs : List Completion) (end from at : ℕ) (stack left : List Symbol) (older : List Built) (old new : Builder) (turn : Turn) (how : End) →
+    all_complete cs end rules cs ≡ true → (kept : Kept rules start text cs end from at stack older old) →
+    Turns rules text (reading stack at kept.building) at turn left older new → at < length text → end_of turn new.passed at ≡ Some how → Ends rules start text from older new how
+ended rules start text cs end from at stack left older old new turn how all kept turned less e = go turn new.passed refl turned e
   where
     b : Building
     b = kept.building
@@ -210,11 +211,11 @@ ended rules start text cs end from at stack left old new turn how all kept turne
     first_flat : (place : ℕ) → (reading stack at kept.building).building.passed ≡ Some place → place ≤ at
     first_flat place p = let no : None ≡ Some place = sym kept.flat ∙ p in absurd (cc)
 
-    go : (turn : Turn) (o : Option ℕ) → new.passed ≡ o → Turns rules text (reading stack at kept.building) at turn left new → end_of turn o at ≡ Some how → Ends rules start text from new how
+    go : (turn : Turn) (o : Option ℕ) → new.passed ≡ o → Turns rules text (reading stack at kept.building) at turn left older new → end_of turn o at ≡ Some how → Ends rules start text from older new how
     go Taken None p t e = absurd (cc)
     go Behind None p t e =
         let same : ends.Read at ≡ how = cc in
-        subst (Ends rules start text from new) same (record {
+        subst (Ends rules start text from older new) same (record {
           building = t.building;
           reads = record { leads = leads_on rules text (begins start from) (reading stack at kept.building) (reading [] at t.building) (kept.leads text (λ k le. refl)) t.leads; before = less };
           flat = sym t.holds.passed ∙ p;
@@ -222,15 +223,15 @@ ended rules start text cs end from at stack left old new turn how all kept turne
         })
     go Refused None p t e =
         let same : ends.Wrong at ≡ how = cc in
-        subst (Ends rules start text from new) same
-        (wrong_at rules start text cs end from at stack old new all kept t less (λ place q. let no : None ≡ Some place = sym p ∙ (t.holds.passed ∙ q) in absurd (cc)))
+        subst (Ends rules start text from older new) same
+        (wrong_at rules start text cs end from at stack older old new all kept t less (λ place q. let no : None ≡ Some place = sym p ∙ (t.holds.passed ∙ q) in absurd (cc)))
     go Taken (Some place) p t e =
         let same : ends.Nested place ≡ how = cc in
         let m = t.before in
         let passed : m.building.passed ≡ Some place = sym t.holds.passed ∙ p in
         let near = (leads_keeps rules text (reading stack at kept.building) m t.leads).within (λ q r. let no : None ≡ Some q = sym kept.flat ∙ r in absurd (cc)) place passed in
         let next_is = t.next_is in
-        subst (Ends rules start text from new) same (record {
+        subst (Ends rules start text from older new) same (record {
           reading = reading left (suc at) m.building;
           leads = further rules text (begins start from) m (reading left (suc at) m.building)
               (leads_on rules text (begins start from) (reading stack at kept.building) m (kept.leads text (λ k le. refl)) t.leads) t.taken;
@@ -239,7 +240,7 @@ ended rules start text cs end from at stack left old new turn how all kept turne
         })
     go Behind (Some place) p t e =
         let same : ends.Nested place ≡ how = cc in
-        subst (Ends rules start text from new) same (record {
+        subst (Ends rules start text from older new) same (record {
           reading = reading [] at t.building;
           leads = leads_on rules text (begins start from) (reading stack at kept.building) (reading [] at t.building) (kept.leads text (λ k le. refl)) t.leads;
           passed = sym t.holds.passed ∙ p;
@@ -247,18 +248,18 @@ ended rules start text cs end from at stack left old new turn how all kept turne
         })
     go Refused (Some place) p t e = choose (nat_le at place) refl e
       where
-        choose : (u : Bool) → nat_le at place ≡ u → cond u (Some (ends.Wrong at)) (Some (ends.Nested place)) ≡ Some how → Ends rules start text from new how
+        choose : (u : Bool) → nat_le at place ≡ u → cond u (Some (ends.Wrong at)) (Some (ends.Nested place)) ≡ Some how → Ends rules start text from older new how
         choose true v e =
             let same : ends.Wrong at ≡ how = cc in
             let far = at_most at place v in
-            subst (Ends rules start text from new) same
-            (wrong_at rules start text cs end from at stack old new all kept t less (λ q r.
+            subst (Ends rules start text from older new) same
+            (wrong_at rules start text cs end from at stack older old new all kept t less (λ q r.
             let one : Some place ≡ Some q = sym p ∙ (t.holds.passed ∙ r) in let eq : place ≡ q = cc in omega arith))
         choose false v e =
             let same : ends.Nested place ≡ how = cc in
             let near = above at place v in
             let next_is = t.next_is in
-            subst (Ends rules start text from new) same (record {
+            subst (Ends rules start text from older new) same (record {
               reading = t.at;
               leads = leads_on rules text (begins start from) (reading stack at kept.building) t.at (kept.leads text (λ k le. refl)) t.leads;
               passed = sym t.holds.passed ∙ p;

@@ -50,40 +50,43 @@ not_empty [] x e = cc
 not_empty (a ∷ xs) x e = cc
 
 -- what the nodes and the open nodes are after the innermost one has ended
-pub record IsClosed (begun : List Begun) (b : Building) (last : ℕ) (list : List Built) (outer : List Opened) : Type 0 where
-  pub nodes : list ≡ all_nodes (ends last begun b).begun (ends last begun b).ended
-  pub opened : outer ≡ opened (ends last begun b).begun
+pub record IsClosed (older : List Built) (begun : List Begun) (b : Building) (last : ℕ) (list : List Built) (outer : List Opened) : Type 0 where
+  pub nodes : list ≡ older ++ all_nodes (ends last begun b).begun (ends last begun b).ended
+  pub opened : outer ≡ opened (length older) (ends last begun b).begun
   pub depth : b.depth ≡ (ends last begun b).depth
   pub passed : b.passed ≡ (ends last begun b).passed
 
-pub closes : (begun : List Begun) (b : Building) (last size : ℕ) (before after : List Built) (outer : List Opened) (node : Opened) →
-    before ≡ all_nodes begun b.ended → outer ++ (node ∷ []) ≡ opened begun → size ≡ suc (length before - node.before) →
+pub closes : (older : List Built) (begun : List Begun) (b : Building) (last size : ℕ) (before after : List Built) (outer : List Opened) (node : Opened) →
+    before ≡ older ++ all_nodes begun b.ended → outer ++ (node ∷ []) ≡ opened (length older) begun → size ≡ suc (length before - node.before) →
     after ≡ before ++ (record { kind = node.kind; first = node.first; last = last; size = size } ∷ []) →
-    IsClosed begun b last after outer
-closes [] b last size before after outer node e o s a = absurd (not_empty outer node (sym o))
-closes (n ∷ ns) b last size before after outer node e o s a =
-    let same = last_is_one outer (opened ns) node (record { kind = n.kind; first = n.first; before = length (all_nodes ns n.before) }) o in
-    let start : node.before ≡ length (all_nodes ns n.before) = ap (λ (m : Opened). m.before) same.1 in
+    IsClosed older begun b last after outer
+closes older [] b last size before after outer node e o s a = absurd (not_empty outer node (sym o))
+closes older (n ∷ ns) b last size before after outer node e o s a =
+    let same = last_is_one outer (opened (length older) ns) node (record { kind = n.kind; first = n.first; before = length older + length (all_nodes ns n.before) }) o in
+    let start : node.before ≡ length older + length (all_nodes ns n.before) = ap (λ (m : Opened). m.before) same.1 in
     let kinds : node.kind ≡ n.kind = ap (λ (m : Opened). m.kind) same.1 in
     let firsts : node.first ≡ n.first = ap (λ (m : Opened). m.first) same.1 in
-    let long : length before ≡ length (all_nodes ns n.before) + length (nodes b.ended) = ap length e ∙ length-append (all_nodes ns n.before) (nodes b.ended) in
+    let whole : length before ≡ length older + length (all_nodes ns n.before ++ nodes b.ended) = ap length e ∙ length-append older (all_nodes ns n.before ++ nodes b.ended) in
+    let long = length-append (all_nodes ns n.before) (nodes b.ended) in
     let many = length-nodes b.ended in
     let sized : size ≡ suc (count b.ended) = omega arith in
     let span : Span = record { kind = n.kind; first = n.first; last = last } in
     let same_node : record { kind = node.kind; first = node.first; last = last; size = size } ≡ built span (suc (count b.ended)) = cc in
     record {
       nodes = a ∙ (ap (λ (front : List Built). front ++ (record { kind = node.kind; first = node.first; last = last; size = size } ∷ [])) e
-          ∙ (ap (λ (one : Built). (all_nodes ns n.before ++ nodes b.ended) ++ (one ∷ [])) same_node
-          ∙ sym (all_nodes-one ns n.before b.ended span)));
+          ∙ (append_assoc older (all_nodes ns n.before ++ nodes b.ended) _
+          ∙ ap (λ (list : List Built). older ++ list)
+          (ap (λ (one : Built). (all_nodes ns n.before ++ nodes b.ended) ++ (one ∷ [])) same_node
+          ∙ sym (all_nodes-one ns n.before b.ended span))));
       opened = same.0;
       depth = refl;
       passed = refl;
     }
 
 -- no node stands below the outermost ones
-pub not_open : (begun : List Begun) → [] ≡ opened begun → begun ≡ []
-not_open [] e = refl
-not_open (n ∷ ns) e = absurd (not_empty (opened ns) _ e)
+pub not_open : (older : ℕ) (begun : List Begun) → [] ≡ opened older begun → begun ≡ []
+not_open older [] e = refl
+not_open older (n ∷ ns) e = absurd (not_empty (opened older ns) _ e)
 
 pub older-nodes : (begun : List Begun) (ended : Forest Span) → all_nodes begun ended ≡ older_nodes begun ++ nodes ended
 older-nodes [] ended = refl

@@ -6,11 +6,12 @@ use Rattle.std.proofs.lemmas.Bool.{eqb-true}
 use Rattle.std.proofs.lemmas.List.{reverse-append, reverse-reverse}
 use Rattle.zw_grammar.specs.Plain.{PlainRule}
 use Rattle.zw_grammar.specs.declared.builder.Builder.{Builder}
+use Rattle.zw_grammar.specs.declared.builder.Built.{Built}
 use Rattle.zw_grammar.specs.declared.grammar.Mark.{Mark}
 use Rattle.zw_grammar.specs.declared.grammar.Symbol.{Symbol}
 use Rattle.zw_grammar.specs.declared.grammar.Symbol.TheVariants.{Take, Read, Build}
 use Rattle.zw_grammar.specs.Building.{Building, marked}
-use Rattle.zw_grammar.specs.Nodes.{Holds}
+use Rattle.zw_grammar.specs.Nodes.{HoldsBehind}
 use Rattle.zw_grammar.specs.Reading.{Reading, Leads, after, step, choice}
 use Rattle.zw_grammar.specs.Reading.Leads.{here, on}
 use Rattle.zw_grammar.specs.Turns.{Comes, Takes, Sticks, reading}
@@ -39,10 +40,10 @@ differ a b h =
     go (a == b) refl
 
 -- a mark is read
-pub comes_build : (rules : List PlainRule) (text : List ℕ) (from : Reading) (stack others : List Symbol) (next : ℕ) (old new : Builder) (mark : Mark) →
-    Comes rules text from stack next old → stack ≡ others ++ (Build mark ∷ []) →
-    ((b : Building) → Holds old b → Holds new (marked text next mark b)) → Comes rules text from others next new
-comes_build rules text from stack others next old new mark come e hold =
+pub comes_build : (rules : List PlainRule) (text : List ℕ) (from : Reading) (stack others : List Symbol) (next : ℕ) (older : List Built) (old new : Builder) (mark : Mark) →
+    Comes rules text from stack next older old → stack ≡ others ++ (Build mark ∷ []) →
+    ((b : Building) → HoldsBehind older old b → HoldsBehind older new (marked text next mark b)) → Comes rules text from others next older new
+comes_build rules text from stack others next older old new mark come e hold =
     let b = come.building in
     let top : reverse stack ≡ Build mark ∷ reverse others = ap reverse e ∙ reverse_last others (Build mark) in
     let one : after rules text (reading stack next b) ≡ Some (reading others next (marked text next mark b)) =
@@ -54,10 +55,10 @@ comes_build rules text from stack others next old new mark come e hold =
     }
 
 -- a terminal is taken
-pub comes_take : (rules : List PlainRule) (text : List ℕ) (from : Reading) (stack others : List Symbol) (next terminal wanted : ℕ) (builder : Builder) →
-    Comes rules text from stack next builder → stack ≡ others ++ (Take wanted ∷ []) → slice_get text next ≡ Some terminal →
-    (terminal == wanted) ≡ true → Takes rules text from others next builder
-comes_take rules text from stack others next terminal wanted builder come e there same =
+pub comes_take : (rules : List PlainRule) (text : List ℕ) (from : Reading) (stack others : List Symbol) (next terminal wanted : ℕ) (older : List Built) (builder : Builder) →
+    Comes rules text from stack next older builder → stack ≡ others ++ (Take wanted ∷ []) → slice_get text next ≡ Some terminal →
+    (terminal == wanted) ≡ true → Takes rules text from others next older builder
+comes_take rules text from stack others next terminal wanted older builder come e there same =
     let b = come.building in
     let top : reverse stack ≡ Take wanted ∷ reverse others = ap reverse e ∙ reverse_last others (Take wanted) in
     let s : Reading = record { stack = reverse others; next = suc next; building = b } in
@@ -68,10 +69,10 @@ comes_take rules text from stack others next terminal wanted builder come e ther
     record { before = reading stack next b; leads = come.leads; next_is = refl; taken = one; holds = come.holds }
 
 -- a rule is read
-pub comes_read : (rules : List PlainRule) (text : List ℕ) (from : Reading) (stack others after_it symbols : List Symbol) (next terminal number : ℕ) (builder : Builder) →
-    Comes rules text from stack next builder → stack ≡ others ++ (Read number ∷ []) → slice_get text next ≡ Some terminal →
-    choice rules number terminal ≡ Some symbols → after_it ≡ others ++ reverse symbols → Comes rules text from after_it next builder
-comes_read rules text from stack others after_it symbols next terminal number builder come e there chosen pushed =
+pub comes_read : (rules : List PlainRule) (text : List ℕ) (from : Reading) (stack others after_it symbols : List Symbol) (next terminal number : ℕ) (older : List Built) (builder : Builder) →
+    Comes rules text from stack next older builder → stack ≡ others ++ (Read number ∷ []) → slice_get text next ≡ Some terminal →
+    choice rules number terminal ≡ Some symbols → after_it ≡ others ++ reverse symbols → Comes rules text from after_it next older builder
+comes_read rules text from stack others after_it symbols next terminal number older builder come e there chosen pushed =
     let b = come.building in
     let top : reverse stack ≡ Read number ∷ reverse others = ap reverse e ∙ reverse_last others (Read number) in
     let put : List Symbol → Reading = λ more. record { stack = more ++ reverse others; next = next; building = b } in
@@ -88,10 +89,10 @@ not_nil : (stack others : List Symbol) (symbol : Symbol) → reverse stack ≡ s
 not_nil stack others symbol e n = cc
 
 -- another terminal stands there
-pub sticks_take : (rules : List PlainRule) (text : List ℕ) (from : Reading) (stack others : List Symbol) (next terminal wanted : ℕ) (builder : Builder) →
-    Comes rules text from stack next builder → stack ≡ others ++ (Take wanted ∷ []) → slice_get text next ≡ Some terminal →
-    (terminal == wanted) ≡ false → Sticks rules text from next builder
-sticks_take rules text from stack others next terminal wanted builder come e there other =
+pub sticks_take : (rules : List PlainRule) (text : List ℕ) (from : Reading) (stack others : List Symbol) (next terminal wanted : ℕ) (older : List Built) (builder : Builder) →
+    Comes rules text from stack next older builder → stack ≡ others ++ (Take wanted ∷ []) → slice_get text next ≡ Some terminal →
+    (terminal == wanted) ≡ false → Sticks rules text from next older builder
+sticks_take rules text from stack others next terminal wanted older builder come e there other =
     let b = come.building in
     let top : reverse stack ≡ Take wanted ∷ reverse others = ap reverse e ∙ reverse_last others (Take wanted) in
     let s : Reading = record { stack = reverse others; next = suc next; building = b } in
@@ -107,10 +108,10 @@ sticks_take rules text from stack others next terminal wanted builder come e the
     }
 
 -- no alternative of the rule is chosen
-pub sticks_read : (rules : List PlainRule) (text : List ℕ) (from : Reading) (stack others : List Symbol) (next terminal number : ℕ) (builder : Builder) →
-    Comes rules text from stack next builder → stack ≡ others ++ (Read number ∷ []) → slice_get text next ≡ Some terminal →
-    choice rules number terminal ≡ None → Sticks rules text from next builder
-sticks_read rules text from stack others next terminal number builder come e there none =
+pub sticks_read : (rules : List PlainRule) (text : List ℕ) (from : Reading) (stack others : List Symbol) (next terminal number : ℕ) (older : List Built) (builder : Builder) →
+    Comes rules text from stack next older builder → stack ≡ others ++ (Read number ∷ []) → slice_get text next ≡ Some terminal →
+    choice rules number terminal ≡ None → Sticks rules text from next older builder
+sticks_read rules text from stack others next terminal number older builder come e there none =
     let b = come.building in
     let top : reverse stack ≡ Read number ∷ reverse others = ap reverse e ∙ reverse_last others (Read number) in
     let put : List Symbol → Reading = λ more. record { stack = more ++ reverse others; next = next; building = b } in
@@ -126,6 +127,6 @@ sticks_read rules text from stack others next terminal number builder come e the
     }
 
 -- nothing is left to read
-pub comes_behind : (rules : List PlainRule) (text : List ℕ) (from : Reading) (stack : List Symbol) (next : ℕ) (builder : Builder) →
-    Comes rules text from stack next builder → stack ≡ [] → Comes rules text from [] next builder
-comes_behind rules text from stack next builder come e = subst (λ (all : List Symbol). Comes rules text from all next builder) e come
+pub comes_behind : (rules : List PlainRule) (text : List ℕ) (from : Reading) (stack : List Symbol) (next : ℕ) (older : List Built) (builder : Builder) →
+    Comes rules text from stack next older builder → stack ≡ [] → Comes rules text from [] next older builder
+comes_behind rules text from stack next older builder come e = subst (λ (all : List Symbol). Comes rules text from all next older builder) e come

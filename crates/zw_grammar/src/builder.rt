@@ -1,5 +1,5 @@
 // The nodes of a tree in the order in which they end, and how deep rules nest.
-ghost use Rattle.std.specs.Prelude.{◌≡◌, ◌-◌, ◌++◌, List, length};
+ghost use Rattle.std.specs.Prelude.{◌≡◌, ◌+◌, ◌-◌, ◌++◌, ℕ, List, length};
 ghost use Rattle.zw_tree.specs.Trees.{Forest, trees};
 ghost use Rattle.zw_grammar.specs.declared.builder.Built.{Built};
 ghost use Rattle.zw_grammar.specs.Building.{Span, Begun, start_of, front, rest, is_at};
@@ -31,10 +31,13 @@ struct Opened {
     before: usize,
 }
 
-/// The trees that are built so far, as the list of their nodes in the order in which these end: each behind its children.
+/// The trees that are built so far, as the list of their nodes in the order in which these end: each behind its children. What one
+/// reading builds stands behind what earlier ones built.
 #[derive(Debug, Drop)]
 pub struct Builder {
     nodes: Vec<Built>,
+    // How many nodes stood here before the reading.
+    older: usize,
     opened: Vec<Opened>,
     depth: u32,
     passed: Option<u32>,
@@ -50,13 +53,13 @@ fn stands_at(terminals: &[u8], place: u32, terminal: u8) -> bool
     }
 }
 
-// How many nodes had ended before the first child of the innermost open node.
-fn nodes_before(list: &[Opened]) -> usize
-    ensures { (begun : List Begun) → list.now ≡ opened begun → result ≡ length (older_nodes begun) }
+// How many nodes had ended before the first child of the innermost open node, behind so many older ones.
+fn nodes_before(list: &[Opened], older: usize) -> usize
+    ensures { (begun : List Begun) → list.now ≡ opened older begun → result ≡ older + length (older_nodes begun) }
 {
     match list.last() {
         Some(innermost) => innermost.before,
-        None => 0,
+        None => older,
     }
 }
 
@@ -83,7 +86,7 @@ impl Builder {
     ghost use Rattle.std.specs.Prelude.{◌≡◌, ◌+◌, ◌-◌, ◌<◌, ◌++◌, List, [], length, OnOk};
     ghost use Rattle.zw_tree.specs.Trees.{none, trees};
     ghost use Rattle.zw_grammar.specs.Building.{Building, nothing, begin, ends, one, enter, wrapped, marked, enclosed};
-    ghost use Rattle.zw_grammar.specs.Nodes.{Holds, all_nodes};
+    ghost use Rattle.zw_grammar.specs.Nodes.{Holds, HoldsBehind, nodes_of};
 
     /// No nodes.
     pub fn new(alloc: Global) -> Builder
@@ -91,6 +94,7 @@ impl Builder {
     {
         Builder {
             nodes: Vec::new(alloc),
+            older: 0,
             opened: Vec::new(alloc),
             depth: 0,
             passed: None,
@@ -99,16 +103,17 @@ impl Builder {
 
     /// The nodes that have ended, in that order.
     pub fn nodes(&self) -> &[Built]
-        ensures { (b : Building) → Holds self.now b → result.now ≡ all_nodes b.begun b.ended }
+        ensures { result.now ≡ nodes_of self.now }
     {
         self.nodes.as_slice()
     }
 
-    /// Puts all trees below one node, which has the terminals from the first of the text up to this one. No other node is open.
+    /// Puts all trees of the last reading below one node, which has the terminals from the first of the text up to this one. No other
+    /// node is open.
     pub fn enclose(&mut self, kind: NodeKind, last: u32) -> Result<(), Oom>
-        ensures { OnOk result ((b : Building) → Holds self.old b → b.begun ≡ [] → Holds self.new (enclosed kind last b)) }
+        ensures { OnOk result ((older : List Built) (b : Building) → HoldsBehind older self.old b → b.begun ≡ [] → HoldsBehind older self.new (enclosed kind last b)) }
     {
-        let below = self.nodes.len();
+        let below = self.nodes.len().saturating_sub(self.older);
         self.nodes.push(Built {
             kind,
             first: 0,
@@ -125,9 +130,20 @@ impl Builder {
         self.passed
     }
 
+    // A reading begins: what stands here stays as it is, no node is open and no rule counts.
+    pub(crate) fn begin(&mut self)
+        ensures stays { nodes_of self.new ≡ nodes_of self.old }
+        ensures holds { HoldsBehind (nodes_of self.new) self.new nothing }
+    {
+        self.older = self.nodes.len();
+        self.opened.clear();
+        self.depth = 0;
+        self.passed = None;
+    }
+
     // A node begins.
     fn open(&mut self, kind: NodeKind, first: u32) -> Result<(), Oom>
-        ensures { OnOk result ((b : Building) → Holds self.old b → Holds self.new (begin kind first b.ended none b)) }
+        ensures { OnOk result ((older : List Built) (b : Building) → HoldsBehind older self.old b → HoldsBehind older self.new (begin kind first b.ended none b)) }
     {
         let before = self.nodes.len();
         self.opened.push(Opened {
@@ -140,9 +156,9 @@ impl Builder {
 
     // A node begins with the last trees of the innermost open one.
     fn wrap(&mut self, kind: NodeKind, count: u8, at: u32) -> Result<(), Oom>
-        ensures { OnOk result ((b : Building) → Holds self.old b → Holds self.new (wrapped kind at (trees b.ended - count) b)) }
+        ensures { OnOk result ((older : List Built) (b : Building) → HoldsBehind older self.old b → HoldsBehind older self.new (wrapped kind at (trees b.ended - count) b)) }
     {
-        let least = nodes_before(self.opened.as_slice());
+        let least = nodes_before(self.opened.as_slice(), self.older);
         let (first, before) = last_trees(self.nodes.as_slice(), least, count, at);
         self.opened.push(Opened {
             kind,
@@ -154,7 +170,7 @@ impl Builder {
 
     // The innermost open node ends.
     fn close(&mut self, last: u32) -> Result<(), Oom>
-        ensures { OnOk result ((b : Building) → Holds self.old b → Holds self.new (ends last b.begun b)) }
+        ensures { OnOk result ((older : List Built) (b : Building) → HoldsBehind older self.old b → HoldsBehind older self.new (ends last b.begun b)) }
     {
         let Some(opened) = self.opened.pop() else {
             return Ok(());
@@ -171,7 +187,7 @@ impl Builder {
 
     // A node without children.
     fn leaf(&mut self, kind: NodeKind, place: u32) -> Result<(), Oom>
-        ensures { OnOk result ((b : Building) → Holds self.old b → Holds self.new (one kind place b)) }
+        ensures { OnOk result ((older : List Built) (b : Building) → HoldsBehind older self.old b → HoldsBehind older self.new (one kind place b)) }
     {
         self.nodes.push(Built {
             kind,
@@ -184,7 +200,7 @@ impl Builder {
 
     // A rule that counts begins.
     fn enter(&mut self, place: u32)
-        ensures { (b : Building) → Holds self.old b → Holds self.new (enter place b) }
+        ensures { (older : List Built) (b : Building) → HoldsBehind older self.old b → HoldsBehind older self.new (enter place b) }
     {
         if self.depth < MAX_DEPTH {
             self.depth += 1;
@@ -195,7 +211,7 @@ impl Builder {
 
     // What a mark does before the terminal with this number.
     pub(crate) fn mark(&mut self, mark: Mark, terminals: &[u8], at: u32) -> Result<(), Oom>
-        ensures { OnOk result ((b : Building) → Holds self.old b → Holds self.new (marked terminals.now at mark b)) }
+        ensures { OnOk result ((older : List Built) (b : Building) → HoldsBehind older self.old b → HoldsBehind older self.new (marked terminals.now at mark b)) }
     {
         match mark {
             Mark::Open(kind, back) => self.open(kind, at.saturating_sub(u32::from(back))),

@@ -1,8 +1,9 @@
 // The machine that reads by a grammar, with a stack of its own.
-ghost use Rattle.std.specs.Prelude.{◌≡◌, ◌<◌, ◌^◌, ◌++◌, length, reverse, OnOk, IfOk, IsTrue};
-ghost use Rattle.zw_grammar.specs.Building.{Building, nothing};
+ghost use Rattle.std.specs.Prelude.{◌≡◌, ◌<◌, ◌^◌, ◌++◌, List, length, reverse, OnOk, IfOk, IsTrue};
+ghost use Rattle.zw_grammar.specs.declared.builder.Built.{Built};
+ghost use Rattle.zw_grammar.specs.Building.{Building};
 ghost use Rattle.zw_grammar.specs.Grammars.{all_end};
-ghost use Rattle.zw_grammar.specs.Nodes.{Holds};
+ghost use Rattle.zw_grammar.specs.Nodes.{HoldsBehind, nodes_of};
 ghost use Rattle.zw_grammar.specs.Places.{all_places};
 ghost use Rattle.zw_grammar.specs.Plain.{plain};
 ghost use Rattle.zw_grammar.specs.Turns.{Turns, end_of, reading};
@@ -57,8 +58,8 @@ fn take_next(
     requires places { places.now ≡ all_places (plain rules.now) }
     requires within { at < length terminals.now }
     requires length { length terminals.now < 2 ^ 32 }
-    ensures { IfOk result (λ turn. (b : Building) → Holds into.old b →
-        Turns (plain rules.now) terminals.now (reading stack.old.items at b) at turn stack.new.items into.new) }
+    ensures { IfOk result (λ turn. (older : List Built) (b : Building) → HoldsBehind older into.old b →
+        Turns (plain rules.now) terminals.now (reading stack.old.items at b) at turn stack.new.items older into.new) }
 {
     let terminal = terminals[at];
     while let Some(symbol) = stack.pop() {
@@ -97,7 +98,7 @@ fn end_of(turn: Turn, passed: Option<u32>, at: u32) -> Option<End>
     }
 }
 
-/// Reads these symbols from the terminal with the number `from` on, into a builder that is new.
+/// Reads these symbols from the terminal with the number `from` on. What is built stands behind the nodes that the builder has.
 pub fn read(
     alloc: Global,
     rules: &[Rule],
@@ -110,9 +111,9 @@ pub fn read(
     requires complete { IsText (plain rules.now) start.now terminals.now }
     requires length { length terminals.now < 2 ^ 32 }
     requires from { from < length terminals.now }
-    requires fresh { Holds into.old nothing }
-    ensures { IfOk result (λ end. Ends (plain rules.now) start.now terminals.now from into.new end) }
+    ensures { IfOk result (λ end. Ends (plain rules.now) start.now terminals.now from (nodes_of into.old) into.new end) }
 {
+    into.begin();
     let places = all_places(alloc, rules)?;
     let mut stack = Vec::new(alloc);
     push_all(&mut stack, start)?;

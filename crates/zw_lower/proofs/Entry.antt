@@ -1,15 +1,15 @@
 -- At the entry of an exported function: its arguments become its first locals, and those that its code writes are there.
-use Rattle.std.proofs.Common.{◌≡◌, ℕ, suc, ◌<◌, ◌^◌, pos, negsuc, Bool, true, false, cond, List, [], ◌∷◌, ◌++◌, length, map, replicate, Some, All, Contains, refl, ap, ◌∙◌, subst, arith, lit<}
+use Rattle.std.proofs.Common.{◌≡◌, ℕ, suc, ◌<◌, ◌^◌, ℤ, pos, negsuc, Bool, true, false, cond, List, [], ◌∷◌, ◌++◌, length, map, replicate, Some, All, Contains, refl, ap, ◌∙◌, subst, arith, lit<}
 use Rattle.std.specs.Prelude.{nat_eq, slice_get}
 use Rattle.std.specs.List.{list_all, list_any}
 use Rattle.std.specs.Str.{bytes_eq}
-use Rattle.std.proofs.Math.Nat.{mod-eq_of_lt}
-use Rattle.std.proofs.lemmas.Bool.{and_parts, and_from, ltb-true, eqb-true}
+use Rattle.std.proofs.Math.Nat.{mod-lt}
+use Rattle.std.proofs.lemmas.Bool.{and_parts, and_from, eqb-true}
 use Rattle.std.proofs.lemmas.List.{length-append, length-map}
 use Rattle.std.proofs.lemmas.Option.{slice_get_within}
 use Rattle.zw_names.specs.NameSets.{number_in}
 use Rattle.zw_form.specs.Programs.{action_of, function_of}
-use Rattle.zw_form.specs.Source.{Exported, is_u32, number_of, value_of, args_fit}
+use Rattle.zw_form.specs.Source.{Exported, comes_in, number_of, value_of, args_fit}
 use Rattle.zw_form.specs.Trees.{body_steps}
 use Rattle.zw_form.specs.declared.source.Step.{Step}
 use Rattle.zw_lower.specs.Modules.{writes_locals, locals_of, body_of}
@@ -18,52 +18,54 @@ use Rattle.zw_lower.proofs.ListLemmas.{slice_get-append_left, list_any-map_at}
 use Rattle.zw_lower.proofs.NameLemmas.{contains_other}
 use Rattle.zw_lower.proofs.Running.{Placed}
 use Rattle.zw_safety.specs.Checked.{HasScratch, HasPanicState}
+use Rattle.zw_session.specs.Incoming.{modulo}
 use Rattle.zw_session.specs.Sessions.{Scalar, Number, Truth}
 use Rattle.zw_wasm.proofs.Calls.{world_before, entry_of}
 use Rattle.zw_wasm.specs.declared.module.ValType.TheVariants as ty
 use Rattle.zw_wasm.specs.declared.num.Num.{Num}
 use Rattle.zw_wasm.specs.declared.num.Num.TheVariants.{I32}
 use Rattle.zw_wasm.specs.ModuleMachine.{arg_nums, bits_of_scalar}
-use Rattle.zw_wasm.specs.ModuleMachine.{args_fit as module_args_fit}
+use Rattle.zw_wasm.specs.ModuleMachine.{args_fit as module_args_fit, comes_in as module_comes_in}
+use Rattle.zw_wasm.specs.Signature.{Unsigned}
 use Rattle.zw_wasm.specs.Reduction.{Store}
-use Rattle.zw_wasm.specs.Signature.{Unsigned, is_in_range}
 use Rattle.zw_wasm.specs.Structure.{zeros}
 
--- as many values of `u32` as the function has parameters
+-- as many numbers as the function has parameters
 pub record Fitting (f : Exported) (args : List Scalar) : Type 0 where
   pub count : length args ≡ length f.params
-  pub values : list_all is_u32 args ≡ true
+  pub values : list_all comes_in args ≡ true
 
 pub fitting : (f : Exported) (args : List Scalar) → args_fit (Some f) args ≡ true → Fitting f args
 fitting f args h =
-    let both = and_parts (nat_eq (length args) (length f.params)) (list_all is_u32 args) h in
+    let both = and_parts (nat_eq (length args) (length f.params)) (list_all comes_in args) h in
     record { count = eqb-true (length args) (length f.params) both.0; values = both.1 }
 
 -- ---- single arguments
 
-in_range : (a : Scalar) → is_in_range (Unsigned 32) a ≡ is_u32 a
-in_range (Number (pos n)) = refl
-in_range (Number (negsuc n)) = refl
-in_range (Truth b) = refl
+module_takes : (a : Scalar) → comes_in a ≡ true → module_comes_in ty.I32 a ≡ true
+module_takes (Number z) h = h
+module_takes (Truth b) h = absurd (cc)
 
-below : (a : Scalar) → is_u32 a ≡ true → number_of a < 2 ^ 32
-below (Number (pos n)) h = ltb-true n (2 ^ 32) h
-below (Number (negsuc n)) h = absurd (cc)
-below (Truth b) h = absurd (cc)
+modulo_below : (z : ℤ) → modulo 32 z < 2 ^ 32
+modulo_below (pos n) = mod-lt n (lit< tt)
+modulo_below (negsuc n) = omega arith
 
-as_number : (a : Scalar) → is_u32 a ≡ true → bits_of_scalar ty.I32 a ≡ I32 (number_of a)
-as_number (Number (pos n)) h = ap (λ k. I32 k) (mod-eq_of_lt (ltb-true n (2 ^ 32) h))
-as_number (Number (negsuc n)) h = absurd (cc)
+below : (a : Scalar) → number_of a < 2 ^ 32
+below (Number z) = modulo_below z
+below (Truth b) = lit< tt
+
+as_number : (a : Scalar) → comes_in a ≡ true → bits_of_scalar ty.I32 a ≡ I32 (number_of a)
+as_number (Number z) h = refl
 as_number (Truth b) h = absurd (cc)
 
 -- ---- all of them
 
 -- they fit the module's function too
-all_fit : (args : List Scalar) → list_all is_u32 args ≡ true → module_args_fit (replicate (length args) (Unsigned 32)) args ≡ true
+all_fit : (args : List Scalar) → list_all comes_in args ≡ true → module_args_fit (replicate (length args) (Unsigned 32)) args ≡ true
 all_fit [] h = refl
 all_fit (a ∷ args) h =
-    let both = and_parts (is_u32 a) (list_all is_u32 args) h in
-    and_from (is_in_range (Unsigned 32) a) (module_args_fit (replicate (length args) (Unsigned 32)) args) (in_range a ∙ both.0) (all_fit args both.1)
+    let both = and_parts (comes_in a) (list_all comes_in args) h in
+    and_from (module_comes_in ty.I32 a) (module_args_fit (replicate (length args) (Unsigned 32)) args) (module_takes a both.0) (all_fit args both.1)
 
 pub args_too : (f : Exported) (args : List Scalar) → Fitting f args → module_args_fit (replicate (length f.params) (Unsigned 32)) args ≡ true
 args_too f args fit = subst (λ n. module_args_fit (replicate n (Unsigned 32)) args ≡ true) fit.count (all_fit args fit.values)
@@ -72,10 +74,10 @@ args_too f args fit = subst (λ n. module_args_fit (replicate n (Unsigned 32)) a
 abbrev pub arg_locals : List Scalar → List Num
 arg_locals args = map (λ a. I32 (number_of a)) args
 
-all_become : (args : List Scalar) → list_all is_u32 args ≡ true → arg_nums (replicate (length args) ty.I32) args ≡ arg_locals args
+all_become : (args : List Scalar) → list_all comes_in args ≡ true → arg_nums (replicate (length args) ty.I32) args ≡ arg_locals args
 all_become [] h = refl
 all_become (a ∷ args) h =
-    let both = and_parts (is_u32 a) (list_all is_u32 args) h in
+    let both = and_parts (comes_in a) (list_all comes_in args) h in
     ap (λ x. x ∷ arg_nums (replicate (length args) ty.I32) args) (as_number a both.0) ∙ ap (λ xs. I32 (number_of a) ∷ xs) (all_become args both.1)
 
 pub args_become : (f : Exported) (args : List Scalar) → Fitting f args → arg_nums (replicate (length f.params) ty.I32) args ≡ arg_locals args
@@ -86,12 +88,11 @@ below_either true m n h k = h
 below_either false m n h k = k
 
 -- each value is below 2^32
-pub value_below : (params : List (List ℕ)) (args : List Scalar) (name : List ℕ) → list_all is_u32 args ≡ true → value_of params args name < 2 ^ 32
-value_below [] args name h = lit< tt
-value_below (param ∷ params) [] name h = lit< tt
-value_below (param ∷ params) (arg ∷ args) name h =
-    let both = and_parts (is_u32 arg) (list_all is_u32 args) h in
-    below_either (bytes_eq param name) (number_of arg) (value_of params args name) (below arg both.0) (value_below params args name both.1)
+pub value_below : (params : List (List ℕ)) (args : List Scalar) (name : List ℕ) → value_of params args name < 2 ^ 32
+value_below [] args name = lit< tt
+value_below (param ∷ params) [] name = lit< tt
+value_below (param ∷ params) (arg ∷ args) name =
+    below_either (bytes_eq param name) (number_of arg) (value_of params args name) (below arg) (value_below params args name)
 
 first_or_behind : (b : Bool) (x v n : ℕ) (xs : List Num) → (b ≡ false → slice_get xs n ≡ Some (I32 v)) → slice_get (I32 x ∷ xs) (cond b 0 (suc n)) ≡ Some (I32 (cond b x v))
 first_or_behind true x v n xs h = refl
@@ -123,7 +124,7 @@ entry_placed imports name f number arity args locals store replies fit become st
     let at : (param : List ℕ) → Contains f.params param → slice_get locals (number_in f.params param) ≡ Some (I32 (value_of f.params args param)) =
     λ param h. ap (λ xs. slice_get xs (number_in f.params param)) become ∙ local_is f.params args param fit.count h in
     record {
-      small = λ param h. value_below f.params args param fit.values;
+      small = λ param h. value_below f.params args param;
       locals = λ param h. slice_get-append_left locals zs (number_in f.params param) (slice_get_within locals (number_in f.params param) _ (at param h)) ∙ at param h;
       scratch = scratch_there imports f.params (body_steps f.body) locals count;
       state = state;

@@ -153,7 +153,7 @@ end_once list a b (ends.Nested place) (ends.Wrong other) e f = absurd (f.flat pl
 end_once list a b (ends.Nested place) (ends.Nested other) e f = ap ends.Nested (one_nested_file list place other e f)
 
 -- how a reading of the members ends, and that of a file
-pub read_to_end : (list : List Lexeme) (builder : Builder) (to : ℕ) → EndsOnce list → IsRead rules file_start (terminals_of list) 0 to builder → to ≡ length list - 1 → FileEnds list builder (ends.Read to)
+pub read_to_end : (list : List Lexeme) (builder : Builder) (to : ℕ) → EndsOnce list → IsRead rules file_start (terminals_of list) 0 to [] builder → to ≡ length list - 1 → FileEnds list builder (ends.Read to)
 read_to_end list builder to ends read at_end = record {
   building = read.building;
   file = record { ends = ends; reads = subst (λ (n : ℕ). Reads rules file_start (terminals_of list) 0 n read.building) at_end read.reads };
@@ -162,7 +162,7 @@ read_to_end list builder to ends read at_end = record {
   at_end = at_end;
 }
 
-pub read_before_end : (list : List Lexeme) (builder : Builder) (to : ℕ) → EndsOnce list → IsRead rules file_start (terminals_of list) 0 to builder → (to ≡ length list - 1 → ⊥) → FileEnds list builder (ends.Wrong to)
+pub read_before_end : (list : List Lexeme) (builder : Builder) (to : ℕ) → EndsOnce list → IsRead rules file_start (terminals_of list) 0 to [] builder → (to ≡ length list - 1 → ⊥) → FileEnds list builder (ends.Wrong to)
 read_before_end list builder to ends read unread = record {
   wrong = read_wrong list to read.building ends read.reads unread;
   flat = λ other nested. not_nested rules file_start (terminals_of list) 0 to other read.building read.reads read.flat nested;

@@ -5,6 +5,7 @@ use Rattle.std.proofs.lemmas.Bool.{cases_lt}
 use Rattle.std.proofs.lemmas.Option.{slice_get_within}
 use Rattle.zw_grammar.specs.declared.grammar.Symbol.{Symbol}
 use Rattle.zw_grammar.specs.declared.builder.Builder.{Builder}
+use Rattle.zw_grammar.specs.declared.builder.Built.{Built}
 use Rattle.zw_grammar.specs.declared.machine.End.{End}
 use Rattle.zw_grammar.specs.declared.machine.End.TheVariants as ends
 use Rattle.zw_grammar.specs.Building.{Building}
@@ -351,16 +352,16 @@ stops_reading start list from place first ends inside wrong =
     record { at = r; leads = n.leads; stuck = n.stuck; unread = unread; next_is = omega (arith, not_before, not_behind) }
 
 -- how the reading of a part ends over terminals, so it does over tokens
-pub part_ends : (start : List Symbol) (list : List Lexeme) (from : ℕ) (builder : Builder) (end : End) → Sound start → EndsOnce list → from < length list →
-    Ends rules start (terminals_of list) from builder end → PartEnds start list from builder end
-part_ends start list from builder (ends.Read to) first once less e =
+pub part_ends : (start : List Symbol) (list : List Lexeme) (from : ℕ) (older : List Built) (builder : Builder) (end : End) → Sound start → EndsOnce list → from < length list →
+    Ends rules start (terminals_of list) from older builder end → PartEnds start list from older builder end
+part_ends start list from older builder (ends.Read to) first once less e =
     record { building = e.building; part = record { ends = once; reads = e.reads }; flat = e.flat; holds = e.holds }
-part_ends start list from builder (ends.Wrong place) first once less e =
+part_ends start list from older builder (ends.Wrong place) first once less e =
     let s = stops_reading start list from place first once less e.wrong in
     record { wrong = subst (IsWrongPart start list from) s.next_is (stuck_part start list from s.at first once less s.leads s.stuck s.unread); flat = e.flat }
-part_ends start list from builder (ends.Nested place) first once less e = e
+part_ends start list from older builder (ends.Nested place) first once less e = e
 
-pub if_part_ends : {E : Type 0} (start : List Symbol) (list : List Lexeme) (from : ℕ) (builder : Builder) (result : Result End E) → Sound start → EndsOnce list → from < length list →
-    IfOk result (λ end. Ends rules start (terminals_of list) from builder end) → IfOk result (λ end. PartEnds start list from builder end)
-if_part_ends start list from builder (Ok end) first once less e = part_ends start list from builder end first once less e
-if_part_ends start list from builder (Err error) first once less e = e
+pub if_part_ends : {E : Type 0} (start : List Symbol) (list : List Lexeme) (from : ℕ) (older : List Built) (builder : Builder) (result : Result End E) → Sound start → EndsOnce list → from < length list →
+    IfOk result (λ end. Ends rules start (terminals_of list) from older builder end) → IfOk result (λ end. PartEnds start list from older builder end)
+if_part_ends start list from older builder (Ok end) first once less e = part_ends start list from older builder end first once less e
+if_part_ends start list from older builder (Err error) first once less e = e

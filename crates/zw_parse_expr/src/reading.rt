@@ -4,7 +4,7 @@ ghost use Rattle.zw_grammar.specs.declared.grammar.Symbol.TheVariants.{Read};
 ghost use Rattle.zw_grammar.specs.Building.{nothing};
 ghost use Rattle.zw_grammar.specs.Completions.{CanComplete};
 ghost use Rattle.zw_grammar.specs.Ends.{Ends};
-ghost use Rattle.zw_grammar.specs.Nodes.{Holds};
+ghost use Rattle.zw_grammar.specs.Nodes.{Holds, nodes_of};
 ghost use Rattle.zw_token.specs.Tokens.{Tokens};
 ghost use Rattle.zw_parse_expr.specs.Files.{FileEnds};
 ghost use Rattle.zw_parse_expr.specs.Lexemes.{AreTokens, lexemes, terminals_of};
@@ -33,8 +33,7 @@ fn read_rule(
     requires tokens { AreTokens text.now tokens.now }
     requires length { length tokens.now < 2 ^ 32 }
     requires from { from < length tokens.now }
-    requires fresh { Holds into.old nothing }
-    ensures { IfOk result (λ end. Ends rules (Read number ∷ []) (terminals_of (lexemes text.now tokens.now)) from into.new end) }
+    ensures { IfOk result (λ end. Ends rules (Read number ∷ []) (terminals_of (lexemes text.now tokens.now)) from (nodes_of into.old) into.new end) }
 {
     let rules = rules(alloc)?;
     let terminals = terminals(alloc, text, tokens)?;
@@ -49,8 +48,8 @@ fn read_rule(
     )
 }
 
-/// Reads one expression from the token with the number `from` on, into a new builder. The tokens are those of the text,
-/// fewer than 2^32, up to its end.
+/// Reads one expression from the token with the number `from` on. What is built stands behind the nodes that the builder has, which
+/// stay as they are. The tokens are those of the text, fewer than 2^32, up to its end.
 pub fn expr(
     alloc: Global,
     text: &[u8],
@@ -61,16 +60,15 @@ pub fn expr(
     requires tokens { Tokens text.now tokens.now }
     requires length { length tokens.now < 2 ^ 32 }
     requires from { from < length tokens.now }
-    requires fresh { Holds into.old nothing }
-    ensures terminals { IfOk result (λ end. Ends rules (Read EXPR ∷ []) (terminals_of (lexemes text.now tokens.now)) from into.new end) }
-    ensures tokens { IfOk result (λ end. PartEnds (Read EXPR ∷ []) (lexemes text.now tokens.now) from into.new end) }
+    ensures terminals { IfOk result (λ end. Ends rules (Read EXPR ∷ []) (terminals_of (lexemes text.now tokens.now)) from (nodes_of into.old) into.new end) }
+    ensures tokens { IfOk result (λ end. PartEnds (Read EXPR ∷ []) (lexemes text.now tokens.now) from (nodes_of into.old) into.new end) }
 {
     tokens_in_order();
     read_rule(alloc, EXPR, text, tokens, from, into)
 }
 
-/// Reads the members of a struct, as those of a file are, from the token with the number `from` on, into a new builder. The
-/// tokens are those of the text, fewer than 2^32, up to its end.
+/// Reads the members of a struct, as those of a file are, from the token with the number `from` on. What is built stands behind the
+/// nodes that the builder has, which stay as they are. The tokens are those of the text, fewer than 2^32, up to its end.
 pub fn body(
     alloc: Global,
     text: &[u8],
@@ -81,9 +79,8 @@ pub fn body(
     requires tokens { Tokens text.now tokens.now }
     requires length { length tokens.now < 2 ^ 32 }
     requires from { from < length tokens.now }
-    requires fresh { Holds into.old nothing }
-    ensures terminals { IfOk result (λ end. Ends rules (Read STRUCT_MEMBERS ∷ []) (terminals_of (lexemes text.now tokens.now)) from into.new end) }
-    ensures tokens { IfOk result (λ end. PartEnds (Read STRUCT_MEMBERS ∷ []) (lexemes text.now tokens.now) from into.new end) }
+    ensures terminals { IfOk result (λ end. Ends rules (Read STRUCT_MEMBERS ∷ []) (terminals_of (lexemes text.now tokens.now)) from (nodes_of into.old) into.new end) }
+    ensures tokens { IfOk result (λ end. PartEnds (Read STRUCT_MEMBERS ∷ []) (lexemes text.now tokens.now) from (nodes_of into.old) into.new end) }
 {
     tokens_in_order();
     read_rule(alloc, STRUCT_MEMBERS, text, tokens, from, into)

@@ -3,7 +3,7 @@
 use Rattle.std.specs.Prelude.{ℕ, ℤ, Bool, List, [], ◌∷◌, ◌++◌, Option, IsTrue, map}
 use Rattle.std.specs.List.{AllByRecursion}
 
--- a number or a truth value, as its declared type has it
+-- a number or a truth value: of what goes out as its declared type has it, of what comes in as the host tells it
 pub data Scalar : Type 0 where
   Number : (n : ℤ) → Scalar
   Truth : (b : Bool) → Scalar
@@ -45,7 +45,8 @@ pub record Outcome (State : Type 0) : Type 0 where
   pub end : CallEnd State
 
 -- What a machine is: which calls may be made of it, and what one call does from a state, with these replies and
--- at most this many steps of its own kind.
+-- at most this many steps of its own kind. A call may be made with every number that a host can hand over, also one outside the
+-- declared type of its parameter.
 pub record Machine (State : Type 0) : Type 0 where
   pub fits : Call → Bool
   pub call : State → Call → List ℕ → ℕ → Outcome State

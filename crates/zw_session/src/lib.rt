@@ -12,6 +12,7 @@ ghost use Rattle.zw_session.specs.Sessions.{Machine, Call, session, AllFit};
 ghost use Rattle.zw_session.specs.Bounds.{StaysEnded, SessionsStayEnded, GoesInOrder};
 ghost use Rattle.zw_session.specs.Agrees.{AgreesOnCalls, Agrees, OnlySuchEnds};
 ghost use Rattle.zw_session.specs.Apart.{TellsApart};
+ghost use Rattle.zw_session.specs.Incoming.{NumbersComeIn};
 
 pub use example::idle_machines_agree;
 
@@ -72,6 +73,11 @@ pub fn target_ends_as_source<S: Simulation>()
     ensures { (calls : List Call) → AllFit S.source calls → (replies : List ℕ) →
         OnlySuchEnds (session S.source calls S.source_start replies)
         (session S.target calls S.target_start replies) }
+{}
+
+/// What comes in is a number of 32 or 64 bits, told with a sign or without one, and counts modulo the width that is wanted.
+pub fn numbers_come_in()
+    ensures { NumbersComeIn }
 {}
 
 /// Two machines that differ in a host call, a result, a panic, an answer to a reply, or in that one goes on don't agree.

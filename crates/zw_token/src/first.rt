@@ -10,8 +10,8 @@ use crate::bytes::{
 use crate::literals::{item_len, items_len};
 use crate::numbers::{has_exponent, is_number};
 use crate::tables::{
-    BUILTIN_STARTS, BUILTINS, KEYWORD_STARTS, KEYWORDS, REFUSED_KEYWORD_STARTS, REFUSED_KEYWORDS,
-    REFUSED_NAME_STARTS, REFUSED_NAMES, longest_sign, place_by_letter,
+    BUILTINS, KEYWORD_STARTS, KEYWORDS, REFUSED_KEYWORD_STARTS, REFUSED_KEYWORDS,
+    REFUSED_NAME_STARTS, REFUSED_NAMES, has, longest_sign, place_by_letter,
 };
 use crate::{TextError, TokenKind};
 
@@ -91,7 +91,7 @@ fn first_builtin(rest: &[u8]) -> Front
     ensures { result ≡ builtin_front rest.now }
 {
     let len = word_len(rest);
-    if place_by_letter(&BUILTINS, &BUILTIN_STARTS, &rest[..len]).is_some() {
+    if has(&BUILTINS, &rest[..len]) {
         Ok((TokenKind::Builtin, len + 1))
     } else {
         Err(TextError::NotInProfile)

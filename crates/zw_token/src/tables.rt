@@ -126,13 +126,6 @@ pub const BUILTINS: [&str; 39] = [
     "unionInit",
 ];
 
-// The same for `BUILTINS`.
-pub(crate) const BUILTIN_STARTS: [u8; 59] = [
-    0, 0, 0, 0, 0, 0, 0, 0, 0, 0, 0, 0, 0, 0, 0, 0, 0, 0, 0, 0, 2, 2, 2, 2, 2, 2, 2, 2, 2, 2, 2, 2,
-    2, 5, 9, 12, 15, 17, 18, 18, 20, 24, 24, 24, 24, 29, 29, 29, 31, 31, 32, 36, 38, 39, 39, 39,
-    39, 39, 39,
-];
-
 // The names of primitive types of Zig that aren't in the profile, by their first letter.
 pub(crate) const REFUSED_NAMES: [&str; 17] = [
     "anyopaque",

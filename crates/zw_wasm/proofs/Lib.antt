@@ -11,3 +11,4 @@ pub mod MachineLasts
 pub mod Calls
 pub mod Writes
 pub mod Shortest
+mod Incoming

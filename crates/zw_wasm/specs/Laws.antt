@@ -1,7 +1,8 @@
 -- Laws: what the definitions of validity and reduction owe to those who build on them.
-use Rattle.std.specs.Prelude.{◌≡◌, ℕ, ◌+◌, false, nat_eq, List, [], ◌∷◌, ◌++◌, length, reverse, Option, Some, None, slice_get}
+use Rattle.std.specs.Prelude.{◌≡◌, ℕ, ◌+◌, ◌≤◌, true, false, nat_eq, List, [], ◌∷◌, ◌++◌, length, reverse, Option, Some, None, slice_get}
 use Rattle.std.specs.Option.{option_to_list}
 use Rattle.zw_session.specs.Bounds.{StaysEnded}
+use Rattle.zw_session.specs.Sessions.{Scalar}
 use Rattle.zw_wasm.specs.declared.module.Instr.{Instr}
 use Rattle.zw_wasm.specs.declared.module.Instr.TheVariants.{Unreachable, Loop, If, Else, End, Br, BrIf, Return, LocalGet, LocalSet}
 use Rattle.zw_wasm.specs.declared.module.Instr.TheVariants as instr
@@ -11,10 +12,10 @@ use Rattle.zw_wasm.specs.declared.module.ValType.TheVariants.{I32, I64}
 use Rattle.zw_wasm.specs.declared.num.Num.{Num}
 use Rattle.zw_wasm.specs.declared.num.Num.TheVariants as num
 use Rattle.zw_wasm.specs.ModuleBytes.{EndsOnce}
-use Rattle.zw_wasm.specs.ModuleMachine.{module_machine}
+use Rattle.zw_wasm.specs.ModuleMachine.{carrier, comes_in, module_machine}
 use Rattle.zw_wasm.specs.Reduction.{Config, Frame, Label, World, Stop, labelled, under_label, under_loop}
 use Rattle.zw_wasm.specs.Sequences.{IsCodeOf, LeavesIn, Runs, Halts, Takes, TakesIn, at_body_end, at_label, placed}
-use Rattle.zw_wasm.specs.Signature.{View}
+use Rattle.zw_wasm.specs.Signature.{Reading, Unsigned, Signed, Logical, View, is_in_range}
 use Rattle.zw_wasm.specs.Structure.{Code, Ends, Plain, Choice, Block, Repeat, Spells, code_of, i32_add}
 use Rattle.zw_wasm.specs.Typing.{Context}
 use Rattle.zw_wasm.specs.WellFormed.{block_of, if_block, if_else_block, loop_of}
@@ -54,6 +55,16 @@ pub record BranchesAreTyped : Type 0 where
   pub loop : (x : Context) (ls : List (List ValType)) (t : Option ValType) (is : List Instr) (ts : List ValType) → IsCodeOf x ([] ∷ ls) t is → TakesIn x ls (loop_of t is) ts (option_to_list t ++ ts)
   pub one : (x : Context) (ls : List (List ValType)) (is : List Instr) (ts : List ValType) → IsCodeOf x ([] ∷ ls) None is → TakesIn x ls (if_block None is) (I32 ∷ ts) ts
   pub two : (x : Context) (ls : List (List ValType)) (t : Option ValType) (is js : List Instr) (ts : List ValType) → IsCodeOf x (option_to_list t ∷ ls) t is → IsCodeOf x (option_to_list t ∷ ls) t js → TakesIn x ls (if_else_block t is js) (I32 ∷ ts) (option_to_list t ++ ts)
+
+-- a declared type whose values a number of WebAssembly can carry
+abbrev pub IsCarried : Reading → Type 0
+IsCarried (Unsigned bits) = bits ≤ 64
+IsCarried (Signed bits) = bits ≤ 64
+IsCarried Logical = Unit {0}
+
+-- every value in the range of a declared type can be handed over as a number of the type that carries it
+abbrev pub ValuesComeIn : Type 0
+ValuesComeIn = (r : Reading) (value : Scalar) → IsCarried r → is_in_range r value ≡ true → comes_in (carrier r) value ≡ true
 
 -- a call of any module that ended stays ended, with the same record, under a larger bound
 abbrev pub ModulesStayEnded : Type 0

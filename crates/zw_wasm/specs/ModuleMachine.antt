@@ -1,8 +1,9 @@
 -- ModuleMachine: a module as a machine of sessions. A call of an exported function from a store runs its code for a
 -- bounded number of instructions; what a session may see of it is its result, its host calls, or how it halted.
-use Rattle.std.specs.Prelude.{ℕ, suc, pos, negsuc, ◌*◌, ◌-◌, ◌%◌, ◌^◌, Bool, true, false, ◌&&◌, nat_eq, nat_le, List, [], ◌∷◌, map, replicate, codes, Option, Some, None, is_some, slice_get, if◌then◌else◌}
+use Rattle.std.specs.Prelude.{ℕ, ◌*◌, Bool, true, false, ◌&&◌, nat_eq, nat_le, List, [], ◌∷◌, map, replicate, codes, Option, Some, None, is_some, slice_get, if◌then◌else◌}
 use Rattle.std.specs.Str.{bytes_eq}
 use Rattle.zw_session.specs.Causes.{message_cause, last_cause}
+use Rattle.zw_session.specs.Incoming.{is_word, modulo}
 use Rattle.zw_session.specs.Sessions.{Scalar, Number, Truth, Call, Halt, Panicked, WantsReply, Running, Trapped, CallEnd, Returned, Halted, Outcome, Machine}
 use Rattle.zw_wasm.specs.declared.module.DataSegment.{DataSegment}
 use Rattle.zw_wasm.specs.declared.module.Element.{Element}
@@ -17,7 +18,7 @@ use Rattle.zw_wasm.specs.declared.module.TheConstants.ExportDef.{FUNC, GLOBAL}
 use Rattle.zw_wasm.specs.declared.module.ValType.{ValType}
 use Rattle.zw_wasm.specs.declared.module.ValType.TheVariants as ty
 use Rattle.zw_wasm.specs.Reduction.{Store, World, overwritten, page_size, Frame, Config, Step, Next, Stops, Rests, Stop, Finished, Trap, NoReply, Run, Going, Ended, enter, resolved, run, no_rule, unreachable_trap}
-use Rattle.zw_wasm.specs.Signature.{Reading, Signature, View, scalar_of, is_in_range, bytes_at}
+use Rattle.zw_wasm.specs.Signature.{Reading, Unsigned, Signed, Logical, Signature, View, scalar_of, bytes_at}
 use Rattle.zw_wasm.specs.Structure.{Num, I32, I64, Ends, num_of, bits_of, long_of, word_of}
 use Rattle.zw_wasm.specs.Functions.{func_type}
 
@@ -63,9 +64,8 @@ export_in kind name (e ∷ es) = if nat_eq e.kind kind && bytes_eq e.name name t
 
 -- the bits of a value, in two's complement where it is negative
 abbrev pub bits_of_scalar : ValType → Scalar → Num
-bits_of_scalar t (Number (pos n)) = num_of t n
-bits_of_scalar ty.I32 (Number (negsuc n)) = I32 (2 ^ 32 - suc (n % 2 ^ 32))
-bits_of_scalar ty.I64 (Number (negsuc n)) = I64 (2 ^ 64 - suc (n % 2 ^ 64))
+bits_of_scalar ty.I32 (Number z) = I32 (modulo 32 z)
+bits_of_scalar ty.I64 (Number z) = I64 (modulo 64 z)
 bits_of_scalar t (Truth true) = num_of t 1
 bits_of_scalar t (Truth false) = num_of t 0
 
@@ -162,10 +162,25 @@ call_of m v store c replies bound =
     outcome_of m (result_reading (v.exported c.name))
     (run_export (export_in FUNC c.name m.exports) m v c.args (record { store = store; replies = replies; events = [] }) bound)
 
--- as many arguments as parameters, each in the range of its type
+-- the type that carries the values of a declared type
+abbrev pub carrier : Reading → ValType
+carrier (Unsigned bits) = if nat_le bits 32 then ty.I32 else ty.I64
+carrier (Signed bits) = if nat_le bits 32 then ty.I32 else ty.I64
+carrier Logical = ty.I32
+
+-- whether a host can hand this over as a number of the type: any number of its width, with a sign or without one, and a truth value as
+-- the `i32` that it is
+abbrev pub comes_in : ValType → Scalar → Bool
+comes_in ty.I32 (Number z) = is_word 32 z
+comes_in ty.I64 (Number z) = is_word 64 z
+comes_in ty.I32 (Truth b) = true
+comes_in ty.I64 (Truth b) = false
+
+-- As many arguments as parameters, each a number of the type that carries its own: also one that its declared type doesn't have, since no
+-- host is kept from handing it over.
 abbrev pub args_fit : List Reading → List Scalar → Bool
 args_fit [] [] = true
-args_fit (r ∷ rs) (a ∷ args) = is_in_range r a && args_fit rs args
+args_fit (r ∷ rs) (a ∷ args) = comes_in (carrier r) a && args_fit rs args
 args_fit [] (a ∷ args) = false
 args_fit (r ∷ rs) [] = false
 

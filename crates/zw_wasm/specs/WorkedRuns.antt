@@ -1,6 +1,6 @@
 -- WorkedRuns: what calls of one small module come to, worked out from the rules by hand (WebAssembly Core Specification 1.0, 4.4).
-use Rattle.std.specs.Prelude.{◌≡◌, ℕ, zero, suc, pos, true, List, [], ◌∷◌, codes, Some, None}
-use Rattle.zw_session.specs.Sessions.{Number, HostEvent, Halt, WantsReply, Running, Trapped, Returned, Halted, Outcome}
+use Rattle.std.specs.Prelude.{◌≡◌, ℕ, zero, suc, pos, negsuc, Bool, true, false, List, [], ◌∷◌, codes, Some, None}
+use Rattle.zw_session.specs.Sessions.{Scalar, Number, Truth, HostEvent, Halt, WantsReply, Running, Trapped, Returned, Halted, Outcome}
 use Rattle.zw_wasm.specs.declared.module.BinaryOperator.TheVariants.{Mul, DivS, DivU}
 use Rattle.zw_wasm.specs.declared.module.Comparison.TheVariants.{LtS}
 use Rattle.zw_wasm.specs.declared.module.Conversion.TheVariants.{Wrap, ExtendS, ExtendU}
@@ -12,7 +12,7 @@ use Rattle.zw_wasm.specs.declared.module.Module.{Module}
 use Rattle.zw_wasm.specs.declared.module.TheConstants.ExportDef.{FUNC}
 use Rattle.zw_wasm.specs.declared.module.StoreKind.TheVariants as store
 use Rattle.zw_wasm.specs.declared.module.ValType.TheVariants as ty
-use Rattle.zw_wasm.specs.ModuleMachine.{call_of}
+use Rattle.zw_wasm.specs.ModuleMachine.{call_fits, call_of}
 use Rattle.zw_wasm.specs.Reduction.{Store, bounds_trap, frames_trap, no_entry_trap, overflow_trap, signature_trap, unreachable_trap, zero_divisor_trap}
 use Rattle.zw_wasm.specs.Signature.{Shown, Value, Bytes, Unsigned, View}
 use Rattle.zw_wasm.specs.Structure.{I32, i32_add, i32_lt_u, i32_sub}
@@ -35,10 +35,10 @@ worked_module body = record {
   datas = [];
 }
 
--- function 1 shows the bytes, and all other values are unsigned
+-- function 1 shows the bytes, the second parameter of "f" is a byte, and all other values are words; none has a sign
 abbrev pub worked_view : View
 worked_view = record {
-  exported = λ name. Some (record { params = Unsigned 32 ∷ Unsigned 32 ∷ []; result = Some (Unsigned 32) });
+  exported = λ name. Some (record { params = Unsigned 32 ∷ Unsigned 8 ∷ []; result = Some (Unsigned 32) });
   import_params = shown_to;
 }
   where
@@ -54,6 +54,10 @@ worked_store global = record { globals = I32 global ∷ []; memory = codes "hi!"
 abbrev pub worked_call : List Instr → ℕ → ℕ → List ℕ → ℕ → Outcome Store
 worked_call body a b replies bound =
     call_of (worked_module body) worked_view (worked_store 0) (record { name = codes "f"; args = Number (pos a) ∷ Number (pos b) ∷ [] }) replies bound
+
+-- whether a call under this name with these arguments may be made
+abbrev pub fits_worked : List ℕ → List Scalar → Bool
+fits_worked name args = call_fits (worked_module (LocalGet 0 ∷ End ∷ [])) worked_view (record { name = name; args = args })
 
 -- it returns with these events and this value, and this is left of the global, the replies and the bound
 abbrev pub gives : List HostEvent → ℕ → ℕ → List ℕ → ℕ → Outcome Store
@@ -76,6 +80,13 @@ nested_choices =
     ∷ Else ∷ LocalGet 1 ∷ If (Some ty.I32) ∷ I32Const (pos 1) ∷ Else ∷ I32Const (pos 0) ∷ End ∷ End ∷ i32_add ∷ End ∷ Unreachable ∷ []
 
 pub record WorkedCalls : Type 0 where
+  -- a call may be made with any i32 for each parameter, told with a sign or without one, and a truth value is one
+  pub greatest : fits_worked (codes "f") (Number (pos 4294967295) ∷ Number (pos 300) ∷ []) ≡ true
+  pub least : fits_worked (codes "f") (Number (negsuc 2147483647) ∷ Truth true ∷ []) ≡ true
+  pub too_great : fits_worked (codes "f") (Number (pos 4294967296) ∷ Number (pos 0) ∷ []) ≡ false
+  pub too_small : fits_worked (codes "f") (Number (pos 0) ∷ Number (negsuc 2147483648) ∷ []) ≡ false
+  pub too_few : fits_worked (codes "f") (Number (pos 0) ∷ []) ≡ false
+  pub no_export : fits_worked (codes "g") (Number (pos 0) ∷ Number (pos 0) ∷ []) ≡ false
   -- the first argument is the first parameter; what lies below the arguments stays there
   pub call : worked_call (LocalGet 0 ∷ LocalGet 1 ∷ instr.Call 2 ∷ End ∷ []) 10 3 [] 8 ≡ gives [] 7 0 [] 2
   pub below : worked_call (LocalGet 0 ∷ LocalGet 0 ∷ LocalGet 1 ∷ instr.Call 2 ∷ i32_add ∷ End ∷ []) 10 3 [] 8 ≡ gives [] 17 0 [] 0

@@ -1,6 +1,6 @@
 // The laws of validity and reduction. The functions do nothing: each contract is a law of the definitions in specs/,
 // on which lowering stands.
-ghost use Rattle.zw_wasm.specs.Laws.{BranchesAreTyped, BranchesRun, CodeIsStructured, SequencesCompose, ModulesStayEnded};
+ghost use Rattle.zw_wasm.specs.Laws.{BranchesAreTyped, BranchesRun, CodeIsStructured, SequencesCompose, ModulesStayEnded, ValuesComeIn};
 ghost use Rattle.zw_wasm.specs.WorkedBodies.{BodiesAreTyped};
 ghost use Rattle.zw_wasm.specs.WorkedModules.{WorkedModules};
 ghost use Rattle.zw_wasm.specs.WorkedNumbers.{WorkedNumbers, WorkedReadings};
@@ -39,6 +39,11 @@ pub fn sequences_compose()
 /// A call that ended stays ended, with the same record, under a larger bound.
 pub fn module_calls_stay_ended()
     ensures { ModulesStayEnded }
+{}
+
+/// A host can hand over every value of a declared type of at most 64 bits, as a number of the type that carries it.
+pub fn values_come_in()
+    ensures { ValuesComeIn }
 {}
 
 /// What calls of a small module come to, worked out by hand: calls, choices, locals, a global, and a host that is told and

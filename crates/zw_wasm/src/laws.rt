@@ -1,7 +1,8 @@
 // What holds of the definitions of bytes themselves: each law is the contract of a function that does nothing.
-ghost use Rattle.std.specs.Prelude.{ℕ, ◌≤◌, ◌↔◌, List, length};
+ghost use Rattle.std.specs.Prelude.{◌≡◌, ℕ, ◌≤◌, ◌↔◌, List, length};
 ghost use Rattle.zw_wasm.specs.declared.module.Instr.{Instr};
 ghost use Rattle.zw_wasm.specs.declared.module.Module.{Module};
+ghost use Rattle.zw_wasm.specs.declared.module.TheConstants.ExportDef.{FUNC, TABLE, MEMORY, GLOBAL};
 ghost use Rattle.zw_wasm.specs.Spelling.{spelling};
 ghost use Rattle.zw_wasm.specs.ModuleBytes.{ModuleBytes, EndsOnce};
 ghost use Rattle.zw_wasm.specs.Fits.{Fits};
@@ -18,6 +19,14 @@ pub fn no_shorter_module()
     ensures fits { (m : Module) (bytes : List ℕ) → ModuleBytes m bytes → Fits m }
     ensures spelled { (m : Module) (bytes : List ℕ) → ModuleBytes m bytes → ModuleBytes m (spelling m) }
     ensures shortest { (m : Module) (bytes : List ℕ) → ModuleBytes m bytes → length (spelling m) ≤ length bytes }
+{}
+
+/// The number of each kind of export (WebAssembly Core Specification 1.0, 5.5.10).
+pub fn export_kinds_are_numbered()
+    ensures function { FUNC ≡ 0 }
+    ensures table { TABLE ≡ 1 }
+    ensures memory { MEMORY ≡ 2 }
+    ensures global { GLOBAL ≡ 3 }
 {}
 
 /// Instructions are an expression where each block, loop and `if` has its end, an `if` with at most one `else` before it,

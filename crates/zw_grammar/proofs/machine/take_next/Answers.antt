@@ -11,20 +11,20 @@ use Rattle.zw_grammar.proofs.StepLemmas.{steps_fall}
 use Rattle.zw_grammar.proofs.machine.take_next.Goals as goal
 
 pub loop-symbol-init : goal.loop-symbol-init
-loop-symbol-init c = λ b h. record { building = b; leads = here (reading c.args.stack.now.items c.args.at b); holds = h }
+loop-symbol-init c = λ older b h. record { building = b; leads = here (reading c.args.stack.now.items c.args.at b); holds = h }
 
 pub returns-then-terminal-wanted : goal.returns-then-terminal-wanted
-returns-then-terminal-wanted c = λ b h.
+returns-then-terminal-wanted c = λ older b h.
     let there = slice_get-get_or c.args.terminals.now c.args.at 0 c.requires.within in
-    comes_take _ _ _ c.loop-symbol.stack.items c.pop.new.self.items c.args.at (slice_index_or c.args.terminals.now c.args.at 0) c.in-Take.wanted c.loop-symbol.into
-    (c.loop-symbol.invariant b h) (c.in-Some.ensures.items ∙ ap (λ (s : Symbol). c.pop.new.self.items ++ (s ∷ [])) c.in-Take.is) there
+    comes_take _ _ _ c.loop-symbol.stack.items c.pop.new.self.items c.args.at (slice_index_or c.args.terminals.now c.args.at 0) c.in-Take.wanted older c.loop-symbol.into
+    (c.loop-symbol.invariant older b h) (c.in-Some.ensures.items ∙ ap (λ (s : Symbol). c.pop.new.self.items ++ (s ∷ [])) c.in-Take.is) there
     (eq-eqb _ _ c.if-terminal-wanted.true)
 
 pub returns-else-terminal-wanted : goal.returns-else-terminal-wanted
-returns-else-terminal-wanted c = λ b h.
+returns-else-terminal-wanted c = λ older b h.
     let there = slice_get-get_or c.args.terminals.now c.args.at 0 c.requires.within in
-    sticks_take _ _ _ c.loop-symbol.stack.items c.pop.new.self.items c.args.at (slice_index_or c.args.terminals.now c.args.at 0) c.in-Take.wanted c.loop-symbol.into
-    (c.loop-symbol.invariant b h) (c.in-Some.ensures.items ∙ ap (λ (s : Symbol). c.pop.new.self.items ++ (s ∷ [])) c.in-Take.is) there
+    sticks_take _ _ _ c.loop-symbol.stack.items c.pop.new.self.items c.args.at (slice_index_or c.args.terminals.now c.args.at 0) c.in-Take.wanted older c.loop-symbol.into
+    (c.loop-symbol.invariant older b h) (c.in-Some.ensures.items ∙ ap (λ (s : Symbol). c.pop.new.self.items ++ (s ∷ [])) c.in-Take.is) there
     (differ _ _ c.if-terminal-wanted.false)
 
 pub loop-symbol-smaller-in_ok-push_all-in-Some-choose :
@@ -43,22 +43,22 @@ loop-symbol-smaller-in_ok-push_all-in-Some-choose c =
 
 pub loop-symbol-preserved-in_ok-push_all-in-Some-choose :
     goal.loop-symbol-preserved-in_ok-push_all-in-Some-choose
-loop-symbol-preserved-in_ok-push_all-in-Some-choose c = λ b h.
+loop-symbol-preserved-in_ok-push_all-in-Some-choose c = λ older b h.
     let there = slice_get-get_or c.args.terminals.now c.args.at 0 c.requires.within in
     comes_read _ _ _ c.loop-symbol.stack.items c.pop.new.self.items c.push_all.new.stack.items c.in-Some-choose.symbols.now c.args.at
-    (slice_index_or c.args.terminals.now c.args.at 0) c.in-Read.number c.loop-symbol.into
-    (c.loop-symbol.invariant b h) (c.in-Some.ensures.items ∙ ap (λ (s : Symbol). c.pop.new.self.items ++ (s ∷ [])) c.in-Read.is) there
+    (slice_index_or c.args.terminals.now c.args.at 0) c.in-Read.number older c.loop-symbol.into
+    (c.loop-symbol.invariant older b h) (c.in-Some.ensures.items ∙ ap (λ (s : Symbol). c.pop.new.self.items ++ (s ∷ [])) c.in-Read.is) there
     c.in-Some-choose.ensures c.in_ok-push_all-in-Some-choose.ensures
 
 pub returns-in-None : goal.returns-in-None
-returns-in-None c = λ b h.
+returns-in-None c = λ older b h.
     let there = slice_get-get_or c.args.terminals.now c.args.at 0 c.requires.within in
-    sticks_read _ _ _ c.loop-symbol.stack.items c.pop.new.self.items c.args.at (slice_index_or c.args.terminals.now c.args.at 0) c.in-Read.number c.loop-symbol.into
-    (c.loop-symbol.invariant b h) (c.in-Some.ensures.items ∙ ap (λ (s : Symbol). c.pop.new.self.items ++ (s ∷ [])) c.in-Read.is) there
+    sticks_read _ _ _ c.loop-symbol.stack.items c.pop.new.self.items c.args.at (slice_index_or c.args.terminals.now c.args.at 0) c.in-Read.number older c.loop-symbol.into
+    (c.loop-symbol.invariant older b h) (c.in-Some.ensures.items ∙ ap (λ (s : Symbol). c.pop.new.self.items ++ (s ∷ [])) c.in-Read.is) there
     c.in-None.ensures
 
 pub loop-symbol-preserved : goal.loop-symbol-preserved
-loop-symbol-preserved c = λ b h.
-    comes_build _ _ _ c.loop-symbol.stack.items c.pop.new.self.items c.args.at c.loop-symbol.into c.mark.new.self c.in-Build.mark
-    (c.loop-symbol.invariant b h) (c.in-Some.ensures.items ∙ ap (λ (s : Symbol). c.pop.new.self.items ++ (s ∷ [])) c.in-Build.is)
-    c.in_ok-mark-in-Build.ensures
+loop-symbol-preserved c = λ older b h.
+    comes_build _ _ _ c.loop-symbol.stack.items c.pop.new.self.items c.args.at older c.loop-symbol.into c.mark.new.self c.in-Build.mark
+    (c.loop-symbol.invariant older b h) (c.in-Some.ensures.items ∙ ap (λ (s : Symbol). c.pop.new.self.items ++ (s ∷ [])) c.in-Build.is)
+    (c.in_ok-mark-in-Build.ensures older)

@@ -1,4 +1,4 @@
-use Rattle.std.proofs.Common.{arith}
+use Rattle.std.proofs.Common.{[], ◌∙◌, arith}
 use Rattle.zw_token.proofs.Alone.{characters_alone}
 use Rattle.zw_token.proofs.Lists.{lies_at, apart}
 use Rattle.zw_parse_expr.specs.Lexemes.{lexemes}
@@ -19,14 +19,14 @@ pub tree_of-requires-clause-tree : goal.tree_of-requires-clause-tree
 tree_of-requires-clause-tree c =
     let b = c.requires.read.building in
     let l = listed c.args.text.now c.args.tokens.now c.nodes-nodes.result.now c.args.last c.enclose.new.self b c.requires.read.file c.requires.read.at_end
-    (c.in_ok-enclose.ensures b c.requires.read.holds) c.nodes-nodes.ensures in
+    (c.in_ok-enclose.ensures [] b c.requires.read.holds) (λ d h. c.nodes-nodes.ensures ∙ h.nodes) in
     (tree_of_file (lexemes c.args.text.now c.args.tokens.now) b, l.tree)
 
 pub tree_of-requires-clause-nodes : goal.tree_of-requires-clause-nodes
 tree_of-requires-clause-nodes c =
     let b = c.requires.read.building in
     let l = listed c.args.text.now c.args.tokens.now c.nodes-nodes.result.now c.args.last c.enclose.new.self b c.requires.read.file c.requires.read.at_end
-    (c.in_ok-enclose.ensures b c.requires.read.holds) c.nodes-nodes.ensures in
+    (c.in_ok-enclose.ensures [] b c.requires.read.holds) (λ d h. c.nodes-nodes.ensures ∙ h.nodes) in
     let few = few_tokens c.args.text.now c.args.tokens.now c.requires.tokens in
     omega (arith, few_listed c.args.text.now c.args.tokens.now c.nodes-nodes.result.now b c.requires.read.file l.tree, few.1, c.requires.short)
 
@@ -34,13 +34,13 @@ pub tree_of-requires-clause-within : goal.tree_of-requires-clause-within
 tree_of-requires-clause-within c =
     let b = c.requires.read.building in
     (listed c.args.text.now c.args.tokens.now c.nodes-nodes.result.now c.args.last c.enclose.new.self b c.requires.read.file c.requires.read.at_end
-    (c.in_ok-enclose.ensures b c.requires.read.holds) c.nodes-nodes.ensures).within
+    (c.in_ok-enclose.ensures [] b c.requires.read.holds) (λ d h. c.nodes-nodes.ensures ∙ h.nodes)).within
 
 pub returns : goal.returns
 returns c =
     let b = c.requires.read.building in
     let l = listed c.args.text.now c.args.tokens.now c.nodes-nodes.result.now c.args.last c.enclose.new.self b c.requires.read.file c.requires.read.at_end
-    (c.in_ok-enclose.ensures b c.requires.read.holds) c.nodes-nodes.ensures in
+    (c.in_ok-enclose.ensures [] b c.requires.read.holds) (λ d h. c.nodes-nodes.ensures ∙ h.nodes) in
     record {
       building = b;
       reads = c.requires.read.file;

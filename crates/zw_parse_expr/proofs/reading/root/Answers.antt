@@ -1,6 +1,8 @@
-use Rattle.std.proofs.Common.{◌≡◌, length, refl, subst, arith}
+use Rattle.std.proofs.Common.{◌≡◌, List, length, refl, subst, arith}
 use Rattle.std.proofs.lemmas.List.{length-map}
-use Rattle.zw_grammar.specs.Ends.{Ends}
+use Rattle.zw_grammar.specs.declared.builder.Built.{Built}
+use Rattle.zw_grammar.specs.Ends.{Ends, IsRead}
+use Rattle.zw_grammar.specs.Nodes.{nodes_of}
 use Rattle.zw_parse_expr.specs.Files.{file_start}
 use Rattle.zw_parse_expr.specs.Lexemes.{lexeme_of, lexemes, terminals_of}
 use Rattle.zw_parse_expr.specs.Rules.{rules}
@@ -23,7 +25,8 @@ pub returns-in-Read : goal.returns-in-Read
 returns-in-Read c =
     let list = lexemes c.args.text.now c.args.tokens.now in
     let long : length list ≡ length c.args.tokens.now = length-map c.args.tokens.now (lexeme_of c.args.text.now) in
-    let read = subst (Ends rules file_start (terminals_of list) 0 c.read_rule.new.into) c.in-Read.is c.in_ok-to.ensures in
+    let behind = subst (Ends rules file_start (terminals_of list) 0 (nodes_of c.args.into.now) c.read_rule.new.into) c.in-Read.is c.in_ok-to.ensures in
+    let read = subst (λ (older : List Built). IsRead rules file_start (terminals_of list) 0 c.in-Read.to older c.read_rule.new.into) c.requires.fresh.nodes behind in
     let test = c.if-to-tokens.true in
     read_to_end list c.read_rule.new.into c.in-Read.to (ends_once c.requires.tokens.list) read (omega arith)
 
@@ -31,12 +34,13 @@ pub returns-in-Read-2 : goal.returns-in-Read-2
 returns-in-Read-2 c =
     let list = lexemes c.args.text.now c.args.tokens.now in
     let long : length list ≡ length c.args.tokens.now = length-map c.args.tokens.now (lexeme_of c.args.text.now) in
-    let read = subst (Ends rules file_start (terminals_of list) 0 c.read_rule.new.into) c.in-Read.is c.in_ok-to.ensures in
+    let behind = subst (Ends rules file_start (terminals_of list) 0 (nodes_of c.args.into.now) c.read_rule.new.into) c.in-Read.is c.in_ok-to.ensures in
+    let read = subst (λ (older : List Built). IsRead rules file_start (terminals_of list) 0 c.in-Read.to older c.read_rule.new.into) c.requires.fresh.nodes behind in
     let test = c.if-to-tokens.false in
     read_before_end list c.read_rule.new.into c.in-Read.to (ends_once c.requires.tokens.list) read (λ e. omega (arith, test))
 
 pub returns-in-Wrong : goal.returns-in-Wrong
 returns-in-Wrong c =
     let list = lexemes c.args.text.now c.args.tokens.now in
-    let stops = subst (Ends rules file_start (terminals_of list) 0 c.read_rule.new.into) c.in-Wrong.is c.in_ok-to.ensures in
+    let stops = subst (Ends rules file_start (terminals_of list) 0 (nodes_of c.args.into.now) c.read_rule.new.into) c.in-Wrong.is c.in_ok-to.ensures in
     stops_file list c.read_rule.new.into c.in-Wrong.place (ends_once c.requires.tokens.list) stops
