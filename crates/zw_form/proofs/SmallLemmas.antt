@@ -17,7 +17,7 @@ use Rattle.zw_form.specs.Rules.{steps_of}
 use Rattle.zw_form.specs.Trees.{Sum, Parameter, Number, Operate, Result, Sums, NoSum, More, CallStatement, Body, Tree, Export, count_of, sum_steps, args_steps, statement_steps, body_steps, declaration_of}
 use Rattle.zw_form.specs.declared.roles.Role.{Role}
 use Rattle.zw_form.specs.declared.roles.Role.TheVariants as role
-use Rattle.zw_form.specs.declared.source.Operator.{Operator}
+use Rattle.zw_num.specs.declared.operator.Arithmetic.{Arithmetic}
 use Rattle.zw_form.specs.declared.source.Step.{Step}
 use Rattle.zw_form.specs.declared.source.Step.TheVariants as step
 use Rattle.zw_form.proofs.FileRules.{form_light}
@@ -90,13 +90,13 @@ number-fits digits (Some (pos n)) = by (is_decimal digits && nat_lt n (2 ^ 32)) 
 parameter-fits : (name : List ℕ) → SumFits (Parameter name)
 parameter-fits name = record { steps = one-fits (step.Parameter name) tt }
 
-operator-fits : (operator : Operator) (left right : Sum) → SumFits left → SumFits right → SumFits (Operate operator left right)
+operator-fits : (operator : Arithmetic) (left right : Sum) → SumFits left → SumFits right → SumFits (Operate operator left right)
 operator-fits operator left right h k = record {
   steps = All-append FitsStep (sum_steps left) (sum_steps right ++ step.Operate operator ∷ []) h.steps
       (All-append FitsStep (sum_steps right) (step.Operate operator ∷ []) k.steps (one-fits (step.Operate operator) tt));
 }
 
-operated-fits : (operator : Operator) (s : Sums) → SumsFit s → IfSome (operated operator s) SumFits
+operated-fits : (operator : Arithmetic) (s : Sums) → SumsFit s → IfSome (operated operator s) SumFits
 operated-fits operator NoSum h = tt
 operated-fits operator (More left NoSum) h = tt
 operated-fits operator (More left (More right NoSum)) h = if-else SumFits (is_number left && is_number right) (Operate operator left right) (operator-fits operator left right h.0 h.1.0)

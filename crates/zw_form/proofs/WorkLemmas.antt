@@ -11,7 +11,7 @@ use Rattle.zw_form.specs.Trees.{Sum, Parameter, Number, Operate, Result, Sums, N
 use Rattle.zw_form.specs.Work.{Work, no_work, ◌▷◌, sum_work, args_work, call_work, statements_work, body_work, task_work, tasks_work, task_weight, tasks_weight, AreOperands, sums_in, done, planned, Begins, Finishes, Reads}
 use Rattle.zw_form.specs.declared.roles.Role.{Role}
 use Rattle.zw_form.specs.declared.roles.Role.TheVariants as role
-use Rattle.zw_form.specs.declared.source.Operator.{Operator}
+use Rattle.zw_num.specs.declared.operator.Arithmetic.{Arithmetic}
 use Rattle.zw_form.specs.declared.source.Step.{Step}
 use Rattle.zw_form.specs.declared.source.Step.TheVariants as step
 use Rattle.zw_form.specs.declared.sums.Reader.{Reader}
@@ -131,12 +131,12 @@ map_shape : {B : Type 0} (f : B → Sum) (k : ℕ) → ((b : B) → shape (f b) 
 map_shape f k each None s h = absurd (cc)
 map_shape f k each (Some b) s h = let same : f b ≡ s = cc in ap shape (sym same) ∙ each b
 
-if_shape : (operator : Operator) (left right s : Sum) (test : Bool) → (if test then None else Some (Operate operator left right)) ≡ Some s → shape s ≡ 2
+if_shape : (operator : Arithmetic) (left right s : Sum) (test : Bool) → (if test then None else Some (Operate operator left right)) ≡ Some s → shape s ≡ 2
 unfolding shape
 if_shape operator left right s true h = absurd (cc)
 if_shape operator left right s false h = let same : Operate operator left right ≡ s = cc in ap shape (sym same)
 
-operated_shape : (operator : Operator) (below : Option Sums) (s : Sum) → option_and_then (operated operator) below ≡ Some s → shape s ≡ 2
+operated_shape : (operator : Arithmetic) (below : Option Sums) (s : Sum) → option_and_then (operated operator) below ≡ Some s → shape s ≡ 2
 operated_shape operator None s h = absurd (cc)
 operated_shape operator (Some NoSum) s h = absurd (cc)
 operated_shape operator (Some (More left NoSum)) s h = absurd (cc)
@@ -279,7 +279,7 @@ module _ (text : List ℕ) (tokens : List Token) where
 
   -- ---- operators
 
-  operated-made : (operator : Operator) (a b : Option Sum) → ((l r : Sum) → a ≡ Some l → b ≡ Some r → (is_number l && is_number r) ≡ false)
+  operated-made : (operator : Arithmetic) (a b : Option Sum) → ((l r : Sum) → a ≡ Some l → b ≡ Some r → (is_number l && is_number r) ≡ false)
       → option_map sum_work (option_and_then (operated operator) (both More a (both More b (Some NoSum))))
       ≡ (option_map args_work (both More a (both More b (Some NoSum))) ▷ Some (step.Operate operator ∷ [], []))
   operated-made operator None b h = refl
@@ -318,7 +318,7 @@ module _ (text : List ℕ) (tokens : List Token) where
       by (suc zero) e = is_a_number (number_role r e)
       by (suc (suc k)) e = is_another (λ same. let one = ap shape_of same in omega arith)
 
-  pub operated-work : (operator : Operator) (ts : List (Forest Entry)) → AreOperands ts → option_map sum_work (option_and_then (operated operator) (sums_in text tokens ts)) ≡ (option_map args_work (sums_in text tokens ts) ▷ Some (step.Operate operator ∷ [], []))
+  pub operated-work : (operator : Arithmetic) (ts : List (Forest Entry)) → AreOperands ts → option_map sum_work (option_and_then (operated operator) (sums_in text tokens ts)) ≡ (option_map args_work (sums_in text tokens ts) ▷ Some (step.Operate operator ∷ [], []))
   operated-work operator [] h = absurd h
   operated-work operator (left ∷ []) h = absurd h
   operated-work operator (left ∷ right ∷ []) h =
@@ -329,19 +329,19 @@ module _ (text : List ℕ) (tokens : List Token) where
       by (is_another other) l r l_is r_is = false-and (is_number l) (is_number r) (other-part (role_at left) _ _ _ l l_is other)
   operated-work operator (left ∷ right ∷ other ∷ others) h = absurd h
 
-  none-if : (operator : Operator) (l r : Sum) → (is_number l && is_number r) ≡ true → operated operator (More l (More r NoSum)) ≡ None
+  none-if : (operator : Arithmetic) (l r : Sum) → (is_number l && is_number r) ≡ true → operated operator (More l (More r NoSum)) ≡ None
   none-if operator l r h = ap (λ (test : Bool). if test then None else Some (Operate operator l r)) h
 
-  one-operand : (operator : Operator) (a : Option Sum) → option_and_then (operated operator) (both More a (Some NoSum)) ≡ None
+  one-operand : (operator : Arithmetic) (a : Option Sum) → option_and_then (operated operator) (both More a (Some NoSum)) ≡ None
   one-operand operator None = refl
   one-operand operator (Some a) = refl
 
-  two-numbers : (operator : Operator) (a b : Option Sum) → ((l r : Sum) → a ≡ Some l → b ≡ Some r → (is_number l && is_number r) ≡ true) → option_and_then (operated operator) (both More a (both More b (Some NoSum))) ≡ None
+  two-numbers : (operator : Arithmetic) (a b : Option Sum) → ((l r : Sum) → a ≡ Some l → b ≡ Some r → (is_number l && is_number r) ≡ true) → option_and_then (operated operator) (both More a (both More b (Some NoSum))) ≡ None
   two-numbers operator None b h = refl
   two-numbers operator (Some l) None h = refl
   two-numbers operator (Some l) (Some r) h = none-if operator l r (h l r refl refl)
 
-  more-operands : (operator : Operator) (a b c : Option Sum) (ds : Option Sums) → option_and_then (operated operator) (both More a (both More b (both More c ds))) ≡ None
+  more-operands : (operator : Arithmetic) (a b c : Option Sum) (ds : Option Sums) → option_and_then (operated operator) (both More a (both More b (both More c ds))) ≡ None
   more-operands operator None b c ds = refl
   more-operands operator (Some a) None c ds = refl
   more-operands operator (Some a) (Some b) None ds = refl
@@ -352,7 +352,7 @@ module _ (text : List ℕ) (tokens : List Token) where
   true-and true b g h = h
   true-and false b g h = absurd (cc)
 
-  pub no-operands : (operator : Operator) (ts : List (Forest Entry)) → (AreOperands ts → ⊥) → option_and_then (operated operator) (sums_in text tokens ts) ≡ None
+  pub no-operands : (operator : Arithmetic) (ts : List (Forest Entry)) → (AreOperands ts → ⊥) → option_and_then (operated operator) (sums_in text tokens ts) ≡ None
   no-operands operator [] h = refl
   no-operands operator (left ∷ []) h = one-operand operator (sum_of text tokens left)
   no-operands operator (left ∷ right ∷ []) h = by (part (role_at left)) (part (role_at right))
@@ -393,7 +393,7 @@ module _ (text : List ℕ) (tokens : List Token) where
       ∙ ap (λ w. Some (steps, callees) ▷ w) (sym (then-assoc N (A ▷ C) W))
       ∙ ap (λ w. Some (steps, callees) ▷ (w ▷ W)) (sym (called-work (inside_first (from file n)) (from file c) same some name found has_result args counted))
 
-  pub operator-begun : (file : Forest Entry) (n : ℕ) (operator : Operator) → AreOperands (siblings (inside_first (from file n)))
+  pub operator-begun : (file : Forest Entry) (n : ℕ) (operator : Arithmetic) → AreOperands (siblings (inside_first (from file n)))
       → (steps : List Step) (callees : List (List ℕ)) (tasks tasks₁ tasks₂ : List Task)
       → tasks₁ ≡ tasks ++ Take (step.Operate operator) ∷ []
       → tasks₂ ≡ tasks₁ ++ Children n 0 ∷ []

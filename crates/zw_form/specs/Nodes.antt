@@ -14,8 +14,8 @@ use Rattle.zw_tree.specs.declared.kind.NodeKind.TheVariants as kind
 use Rattle.zw_form.specs.Trees.{Sum, Parameter, Number, Operate, Result, Sums, NoSum, More, CallStatement, Body, Tree, Extern, Export}
 use Rattle.zw_form.specs.declared.roles.Role.{Role}
 use Rattle.zw_form.specs.declared.roles.Role.TheVariants as role
-use Rattle.zw_form.specs.declared.source.Operator.{Operator}
-use Rattle.zw_form.specs.declared.source.Operator.TheVariants.{Add, Subtract, AddWrapping}
+use Rattle.zw_num.specs.declared.operator.Arithmetic.{Arithmetic}
+use Rattle.zw_num.specs.declared.operator.Arithmetic.TheVariants.{Add, Sub, AddWrap}
 
 -- the part that a node of this kind has in the form
 abbrev pub role_of : NodeKind → Role
@@ -30,8 +30,8 @@ role_of kind.Block = role.Block
 role_of kind.Return = role.Return
 role_of kind.Call = role.Call
 role_of kind.Add = role.Operator Add
-role_of kind.Subtract = role.Operator Subtract
-role_of kind.AddWrap = role.Operator AddWrapping
+role_of kind.Subtract = role.Operator Sub
+role_of kind.AddWrap = role.Operator AddWrap
 role_of kind.Identifier = role.Identifier
 role_of kind.QuotedIdentifier = role.QuotedIdentifier
 role_of kind.Number = role.Number
@@ -122,7 +122,7 @@ is_number (Operate operator left right) = false
 is_number (Result callee args) = false
 
 -- An operator has two operands, of which at least one is no number: numbers alone would have no type of their own.
-abbrev pub operated : Operator → Sums → Option Sum
+abbrev pub operated : Arithmetic → Sums → Option Sum
 operated operator (More left (More right NoSum)) = if is_number left && is_number right then None else Some (Operate operator left right)
 operated operator (More left (More right (More other others))) = None
 operated operator (More left NoSum) = None

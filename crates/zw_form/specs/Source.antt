@@ -1,16 +1,18 @@
 -- What a file of the form means: the values of its sums, and a machine whose calls return at once.
-use Rattle.std.specs.Prelude.{ℕ, ◌%◌, ◌^◌, pos, Bool, false, ◌&&◌, nat_eq, List, [], ◌∷◌, ◌++◌, length, map, Option, Some, None, if◌then◌else◌}
+use Rattle.std.specs.Prelude.{ℕ, ◌%◌, ◌^◌, pos, Bool, false, ◌&&◌, nat_eq, unsigned_abs, List, [], ◌∷◌, ◌++◌, length, map, Option, Some, None, if◌then◌else◌}
 use Rattle.std.specs.List.{list_all}
+use Rattle.std.specs.Option.{option_map}
+use Rattle.std.specs.Result.{result_ok}
 use Rattle.std.specs.Str.{bytes_eq}
-use Rattle.zw_num.specs.Arithmetic.{sum_in, difference_in, add_wrap_unsigned}
+use Rattle.zw_num.specs.Meanings.{arithmetic}
+use Rattle.zw_num.specs.declared.int_ty.IntTy.TheVariants.{Sized}
+use Rattle.zw_num.specs.declared.operator.Arithmetic.{Arithmetic}
 use Rattle.zw_session.specs.Causes.{integer_overflow}
 use Rattle.zw_session.specs.Incoming.{is_word, modulo}
 use Rattle.zw_session.specs.Sessions.{Scalar, Number, Truth, HostEvent, Call, Halt, Panicked, WantsReply, Wild, CallEnd, Returned, Halted, Outcome, Machine}
 use Rattle.zw_form.specs.Trees.{Sum, Parameter, Operate, Result, Sums, NoSum, More, CallStatement, Body, Tree, Extern, Export}
 use Rattle.zw_form.specs.Trees as terms
 use Rattle.zw_form.specs.declared.source.ExternFunction.{ExternFunction}
-use Rattle.zw_form.specs.declared.source.Operator.{Operator}
-use Rattle.zw_form.specs.declared.source.Operator.TheVariants.{Add, Subtract, AddWrapping}
 
 -- how evaluating ends: with a value and the replies that are left, or it halts
 pub data Answer (V : Type 0) : Type 0 where
@@ -40,10 +42,8 @@ abbrev pub and_then : {V W : Type 0} → Evaluated V → (V → List ℕ → Eva
 and_then r go = goes_on r.events r.end go
 
 -- the value of an operator on `u32`, or none where its exact result isn't in the type
-abbrev pub operator_value : Operator → ℕ → ℕ → Option ℕ
-operator_value Add x y = sum_in 32 x y
-operator_value Subtract x y = difference_in 32 x y
-operator_value AddWrapping x y = Some (add_wrap_unsigned 32 x y)
+abbrev pub operator_value : Arithmetic → ℕ → ℕ → Option ℕ
+operator_value operator x y = option_map unsigned_abs (result_ok (arithmetic operator (Sized false 32) (pos x) (pos y)))
 
 abbrev pub or_overflow : Option ℕ → List ℕ → Evaluated ℕ
 or_overflow (Some n) replies = gives n replies

@@ -4,7 +4,7 @@ use Rattle.std.specs.List.{flat_map}
 use Rattle.zw_form.specs.declared.source.Declaration.{Declaration}
 use Rattle.zw_form.specs.declared.source.Declaration.TheVariants as source
 use Rattle.zw_form.specs.declared.source.ExternFunction.{ExternFunction}
-use Rattle.zw_form.specs.declared.source.Operator.{Operator}
+use Rattle.zw_num.specs.declared.operator.Arithmetic.{Arithmetic}
 use Rattle.zw_form.specs.declared.source.Step.{Step}
 use Rattle.zw_form.specs.declared.source.Step.TheVariants as step
 
@@ -13,7 +13,7 @@ mutual
   pub data Sum : Type 0 where
     Parameter : (name : List ℕ) → Sum
     Number : (n : ℕ) → Sum
-    Operate : (operator : Operator) (left right : Sum) → Sum
+    Operate : (operator : Arithmetic) (left right : Sum) → Sum
     Result : (callee : List ℕ) (args : Sums) → Sum
 
   pub data Sums : Type 0 where

@@ -23,4 +23,4 @@ pub use members::{FRAME_WEIGHT, NODE_LIMIT, NODES, NOT_BUILT, PARAMETER_WEIGHT, 
 pub use names::RESERVED_NAMES;
 pub use program::{Action, Function, Import, Program};
 pub use read::read_form;
-pub use source::{Callee, Declaration, ExportedFunction, ExternFunction, Operator, Step};
+pub use source::{Callee, Declaration, ExportedFunction, ExternFunction, Step};

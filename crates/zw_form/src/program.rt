@@ -1,6 +1,6 @@
 // A file of the form with parameters and called functions by number.
-use crate::source::Operator;
 use sqlite_items::Items;
+use zw_num::Arithmetic;
 
 /// A function of the host that exported functions call: its name, how many `u32` parameters it has, and whether it gives
 /// a `u32`.
@@ -19,7 +19,7 @@ pub enum Action {
     /// This number.
     Number(u32),
     /// Takes two values, of which the second is the right operand.
-    Operate(Operator),
+    Operate(Arithmetic),
     /// Takes the arguments of the import with this number, from 0.
     Call(u32),
 }

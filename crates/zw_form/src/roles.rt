@@ -2,7 +2,7 @@
 ghost use Rattle.std.specs.Prelude.{◌≡◌};
 ghost use Rattle.zw_form.specs.Nodes.{role_of};
 
-use crate::Operator;
+use zw_num::Arithmetic;
 use zw_tree::NodeKind;
 
 /// What a node is in the form.
@@ -22,7 +22,7 @@ pub(crate) enum Role {
     Block,
     Return,
     Call,
-    Operator(Operator),
+    Operator(Arithmetic),
     /// A name that is mentioned.
     Identifier,
     QuotedIdentifier,
@@ -46,9 +46,9 @@ pub(crate) fn role_of(kind: NodeKind) -> Role
         NodeKind::Block => Role::Block,
         NodeKind::Return => Role::Return,
         NodeKind::Call => Role::Call,
-        NodeKind::Add => Role::Operator(Operator::Add),
-        NodeKind::Subtract => Role::Operator(Operator::Subtract),
-        NodeKind::AddWrap => Role::Operator(Operator::AddWrapping),
+        NodeKind::Add => Role::Operator(Arithmetic::Add),
+        NodeKind::Subtract => Role::Operator(Arithmetic::Sub),
+        NodeKind::AddWrap => Role::Operator(Arithmetic::AddWrap),
         NodeKind::Identifier => Role::Identifier,
         NodeKind::QuotedIdentifier => Role::QuotedIdentifier,
         NodeKind::Number => Role::Number,

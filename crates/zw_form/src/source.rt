@@ -2,17 +2,7 @@
 ghost use Rattle.std.specs.Prelude.{◌≡◌};
 
 use sqlite_items::Items;
-
-/// An operator between the terms of a sum (Zig Language Reference 0.13.0, Operators).
-#[derive(Clone, Copy, Debug, PartialEq, Eq)]
-pub enum Operator {
-    /// `+`: the exact sum, which has to be in the type.
-    Add,
-    /// `-`: the exact difference, which has to be in the type.
-    Subtract,
-    /// `+%`: the sum modulo 2^32.
-    AddWrapping,
-}
+use zw_num::Arithmetic;
 
 /// What a call names: a function, with how many arguments, and whether its result is used.
 #[derive(Debug, Drop)]
@@ -30,7 +20,7 @@ pub enum Step {
     /// This number.
     Number(u32),
     /// Takes two values, of which the second is the right operand.
-    Operate(Operator),
+    Operate(Arithmetic),
     /// Takes the arguments.
     Call(Callee),
 }

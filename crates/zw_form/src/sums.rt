@@ -11,10 +11,11 @@ ghost use Rattle.zw_token.specs.declared.token.Token.{Token};
 
 use crate::nodes::{child, children, mentioned, number, role};
 use crate::roles::Role;
-use crate::source::{Callee, Operator, Step};
+use crate::source::{Callee, Step};
 use sqlite_items::Items;
 use std::alloc::Global;
 use zw_base::Oom;
+use zw_num::Arithmetic;
 use zw_token::Token;
 use zw_tree::Ast;
 
@@ -101,7 +102,7 @@ fn are_operands(ast: &Ast, operands: &[u32]) -> bool
 }
 
 /// Begins to read an operator with its operands. It is false where it hasn't two, or both are numbers.
-fn begin_operator(ast: &Ast, n: u32, operator: Operator, reader: &mut Reader) -> Result<bool, Oom>
+fn begin_operator(ast: &Ast, n: u32, operator: Arithmetic, reader: &mut Reader) -> Result<bool, Oom>
     ensures begins { IfOk result (λ ok. (text : List ℕ) (tokens : List Token) → Begins text tokens ast.now ok reader.old reader.new
         (option_map sum_work (option_and_then (operated operator) (sums_of text tokens (inside_first (from ast.now n)))))) }
     ensures weight { IfOk result (λ ok. tasks_weight ast.now reader.new.tasks.items ≤ tasks_weight ast.now reader.old.tasks.items + 3 * count (inside_first (from ast.now n)) + 2) }

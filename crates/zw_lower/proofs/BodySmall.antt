@@ -1,20 +1,24 @@
 -- What evaluating gives is of 32 bits.
-use Rattle.std.proofs.Common.{◌≡◌, ℕ, ◌+◌, ◌-◌, ◌<◌, ◌^◌, Bool, true, false, List, [], ◌∷◌, ◌++◌, length, Some, None, refl, arith, All, Contains}
-use Rattle.std.proofs.lemmas.Bool.{ltb-true}
+use Rattle.std.proofs.Common.{◌≡◌, ℕ, ℤ, pos, negsuc, ◌+◌, ◌<◌, ◌^◌, List, [], ◌∷◌, ◌++◌, length, Result, Ok, Err, refl, arith, All, Contains}
 use Rattle.std.proofs.lemmas.List.Elements.{All-nil, All-cons, All-head}
-use Rattle.std.specs.Prelude.{nat_lt, nat_le, if◌then◌else◌}
+use Rattle.std.specs.Prelude.{unsigned_abs}
+use Rattle.std.specs.Option.{option_map}
+use Rattle.std.specs.Result.{result_ok}
+use Rattle.zw_num.specs.Meanings.{arithmetic}
+use Rattle.zw_num.specs.declared.num_fault.NumFault.{NumFault}
+use Rattle.zw_num.specs.declared.operator.Arithmetic.{Arithmetic}
 use Rattle.zw_form.specs.Form.{FitsStep}
 use Rattle.zw_form.specs.Rules.{IsKnown}
 use Rattle.zw_form.specs.Source.{Answer, Gives, Stops, operator_value, or_overflow, event_of, asked, gives, and_then, sum_value, args_value}
-use Rattle.zw_form.specs.Trees.{Sum, Parameter, Operate, Result, Sums, NoSum, More, count_of, sum_steps, args_steps}
+use Rattle.zw_form.specs.Trees.{Sum, Parameter, Operate, Sums, NoSum, More, count_of, sum_steps, args_steps}
 use Rattle.zw_form.specs.Trees as terms
 use Rattle.zw_form.specs.declared.source.ExternFunction.{ExternFunction}
-use Rattle.zw_form.specs.declared.source.Operator.{Operator}
-use Rattle.zw_form.specs.declared.source.Operator.TheVariants.{Add, Subtract, AddWrapping}
 use Rattle.zw_form.specs.declared.source.Step.{Step}
 use Rattle.zw_form.specs.declared.source.Step.TheVariants as step
 use Rattle.zw_lower.proofs.ComesCompose.{IfGives, if_gives-then}
 use Rattle.zw_lower.proofs.ListLemmas.{All-left, All-right}
+use Rattle.zw_lower.proofs.OnU32.{IsNumberOrOverflow, arithmetic-is, in-word, never-below}
+use Rattle.zw_safety.specs.Checked.{u32}
 use Rattle.zw_session.specs.Sessions.{HostEvent}
 
 -- a number of 32 bits
@@ -40,18 +44,13 @@ reads-right : {externs : List ExternFunction} {params : List (List ℕ)} {values
 reads-right {externs = externs} {params = params} steps others h =
     record { params_are = h.params_are; known = All-right (IsKnown externs params) steps others h.known; fits = All-right FitsStep steps others h.fits }
 
-sum_if-small : (b : Bool) (x y : ℕ) (left : List ℕ) → nat_lt (x + y) (2 ^ 32) ≡ b → IfGives IsSmall (or_overflow (if b then Some (x + y) else None) left).end
-sum_if-small true x y left e = ltb-true (x + y) (2 ^ 32) e
-sum_if-small false x y left e = tt
+value-small : (r : Result ℤ NumFault) (left : List ℕ) → IsNumberOrOverflow r → IfGives IsSmall (or_overflow (option_map unsigned_abs (result_ok r)) left).end
+value-small (Ok (pos n)) left h = in-word n h
+value-small (Ok (negsuc n)) left h = absurd (never-below n h)
+value-small (Err fault) left h = tt
 
-difference_if-small : (b : Bool) (x y : ℕ) (left : List ℕ) → x < 2 ^ 32 → IfGives IsSmall (or_overflow (if b then Some (x - y) else None) left).end
-difference_if-small true x y left h = omega (arith, h)
-difference_if-small false x y left h = tt
-
-pub operator-small : (operator : Operator) (x y : ℕ) (left : List ℕ) → x < 2 ^ 32 → IfGives IsSmall (or_overflow (operator_value operator x y) left).end
-operator-small Add x y left h = sum_if-small (nat_lt (x + y) (2 ^ 32)) x y left refl
-operator-small Subtract x y left h = difference_if-small (nat_le y x) x y left h
-operator-small AddWrapping x y left h = omega arith
+operator-small : (operator : Arithmetic) (x y : ℕ) (left : List ℕ) → IfGives IsSmall (or_overflow (operator_value operator x y) left).end
+operator-small operator x y left = value-small (arithmetic operator u32 (pos x) (pos y)) left (arithmetic-is operator (pos x) (pos y))
 
 asked-small : (event : HostEvent) (replies : List ℕ) → IfGives IsSmall (asked event replies).end
 asked-small event [] = tt
@@ -79,8 +78,8 @@ sum-small externs params values (Operate operator left right) replies h =
     let o = sum_value values right more in
     if_gives-then IsSmall IsSmall o.events o.end (λ y rest. or_overflow (operator_value operator x y) rest)
     (sum-small externs params values right more (reads-left (sum_steps right) operate behind))
-    (λ y rest y_is. operator-small operator x y rest x_is))
-sum-small externs params values (Result callee args) replies h =
+    (λ y rest y_is. operator-small operator x y rest))
+sum-small externs params values (terms.Result callee args) replies h =
     let r = args_value values args replies in
     if_gives-then IsAny IsSmall r.events r.end (λ numbers left. asked (event_of callee numbers) left) (gives-any r.end) (λ numbers left any. asked-small (event_of callee numbers) left)
 

@@ -9,16 +9,17 @@ use Rattle.std.proofs.lemmas.List.Elements.{All-head}
 use Rattle.zw_names.specs.NameSets.{number_in}
 use Rattle.zw_form.specs.Programs.{action_of}
 use Rattle.zw_form.specs.Trees.{Sum, Parameter, Number, Operate, Result, Sums, NoSum, More, CallStatement, Body, count_of, sum_steps, args_steps, statement_steps, body_steps}
-use Rattle.zw_form.specs.declared.source.Operator.{Operator}
-use Rattle.zw_form.specs.declared.source.Operator.TheVariants.{Add, Subtract, AddWrapping}
+use Rattle.zw_num.specs.declared.operator.Arithmetic.{Arithmetic}
+use Rattle.zw_num.specs.declared.operator.Operator.TheVariants as family
 use Rattle.zw_form.specs.declared.source.Step.{Step}
 use Rattle.zw_form.specs.declared.source.Step.TheVariants as step
 use Rattle.zw_lower.proofs.ListLemmas.{All-left, All-right}
+use Rattle.zw_lower.proofs.OnU32.{arithmetic-right}
 use Rattle.zw_lower.proofs.Running.{steps_code}
-use Rattle.zw_lower.specs.Modules.{op_of, action_code, number_type}
-use Rattle.zw_safety.proofs.CheckedTypes.{add-checked, sub-checked, add_wrap-checked}
-use Rattle.zw_safety.specs.Checked.{needs_scratch, ScratchIsTyped, PanicStateIsTyped}
-use Rattle.zw_safety.specs.Code.{checked_code}
+use Rattle.zw_lower.specs.Modules.{on_u32, action_code, number_type}
+use Rattle.zw_safety.specs.Checked.{ScratchIsTyped, PanicStateIsTyped}
+use Rattle.zw_safety.specs.Families.{stored_code}
+use Rattle.zw_safety_narrow.specs.Operators.{writes_locals}
 use Rattle.zw_wasm.proofs.TypingTakes.{takes-none, takes-then, takes-local_get, takes-i32_const, takes-call}
 use Rattle.zw_wasm.specs.declared.module.Instr.{Instr}
 use Rattle.zw_wasm.specs.declared.module.Instr.TheVariants.{Call}
@@ -32,7 +33,7 @@ use Rattle.zw_wasm.specs.Typing.{Context}
 abbrev pub IsTyped : Context → List (List ℕ) → List (List ℕ) → Step → Type 0
 IsTyped x imports params (step.Parameter name) = slice_get x.locals (number_in params name) ≡ Some I32
 IsTyped x imports params (step.Number n) = Unit {0}
-IsTyped x imports params (step.Operate operator) = needs_scratch (op_of operator) ≡ true → ScratchIsTyped (length params) x.locals
+IsTyped x imports params (step.Operate operator) = writes_locals (family.Arithmetic operator) (on_u32 0) ≡ true → ScratchIsTyped (length params) x.locals
 IsTyped x imports params (step.Call callee) = func_type x.module_ (number_in imports callee.name) ≡ Some (number_type callee.args callee.has_result)
 
 -- it has what all steps name, and the state of a panic
@@ -69,10 +70,8 @@ reverse-replicate (suc n) t =
 
 -- ---- single steps
 
-operator_takes : (x : Context) (scratch : ℕ) (operator : Operator) (ts : List ValType) → (needs_scratch (op_of operator) ≡ true → ScratchIsTyped scratch x.locals) → PanicStateIsTyped x.module_ → Takes x (checked_code (op_of operator) scratch) (I32 ∷ I32 ∷ ts) (I32 ∷ ts)
-operator_takes x scratch Add ts h state = (add-checked scratch).typed x ts h state
-operator_takes x scratch Subtract ts h state = (sub-checked scratch).typed x ts h state
-operator_takes x scratch AddWrapping ts h state = (add_wrap-checked scratch).typed x ts h state
+operator_takes : (x : Context) (scratch : ℕ) (operator : Arithmetic) (ts : List ValType) → (writes_locals (family.Arithmetic operator) (on_u32 0) ≡ true → ScratchIsTyped scratch x.locals) → PanicStateIsTyped x.module_ → Takes x (stored_code (family.Arithmetic operator) (on_u32 scratch)) (I32 ∷ I32 ∷ ts) (I32 ∷ ts)
+operator_takes x scratch operator ts h state = (arithmetic-right operator scratch).typed x ts h state
 
 -- a call takes as many numbers as the function has parameters
 call_takes : (x : Context) (k args : ℕ) (has_result : Bool) (ts : List ValType) → func_type x.module_ k ≡ Some (number_type args has_result) → Takes x (Call k ∷ []) (replicate args I32 ++ ts) (option_to_list (number_type args has_result).result ++ ts)

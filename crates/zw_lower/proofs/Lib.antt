@@ -11,6 +11,7 @@ pub mod FileImports
 pub mod ModuleNames
 pub mod ExportFacts
 -- the module is valid and has bytes
+pub mod OnU32
 pub mod CodeTypes
 pub mod BodyTypes
 pub mod ModuleValid

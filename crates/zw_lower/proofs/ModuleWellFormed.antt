@@ -16,17 +16,14 @@ use Rattle.zw_form.specs.declared.program.Action.TheVariants as action
 use Rattle.zw_form.specs.declared.program.Function.{Function}
 use Rattle.zw_form.specs.declared.source.ExportedFunction.{ExportedFunction}
 use Rattle.zw_form.specs.declared.source.ExternFunction.{ExternFunction}
-use Rattle.zw_form.specs.declared.source.Operator.{Operator}
-use Rattle.zw_form.specs.declared.source.Operator.TheVariants.{Add, Subtract, AddWrapping}
 use Rattle.zw_lower.proofs.FileCalls.{IsNameOf, called_are_externs}
 use Rattle.zw_lower.proofs.FileImports.{file_program, file_module}
 use Rattle.zw_lower.proofs.FileNames.{exports_are, extern_is_named}
 use Rattle.zw_lower.proofs.ListLemmas.{all-append}
 use Rattle.zw_lower.proofs.ModuleNames.{import_is_named}
 use Rattle.zw_lower.proofs.ModuleTypes.{length-numbers_from}
-use Rattle.zw_lower.specs.Modules.{op_of, action_code, writes_locals, body_of, imports_from, exports_from, state_exports}
-use Rattle.zw_safety.proofs.CheckedTypes.{add-checked, sub-checked, add_wrap-checked}
-use Rattle.zw_safety.specs.Code.{checked_code}
+use Rattle.zw_lower.proofs.OnU32.{arithmetic-right}
+use Rattle.zw_lower.specs.Modules.{action_code, writes_locals, body_of, imports_from, exports_from, state_exports}
 use Rattle.zw_wasm.proofs.Closing.{closed-none, closed-then, closed-instr, closed-ends}
 use Rattle.zw_wasm.specs.declared.module.Instr.TheVariants.{Call, LocalGet, I32Const}
 use Rattle.zw_wasm.specs.declared.module.ValType.TheVariants.{I32, I64}
@@ -35,15 +32,10 @@ use Rattle.zw_wasm.specs.WellFormed.{IsClosed, IsWellFormed, HasNames, IsWellFor
 
 -- ---- bodies
 
-operator_closed : (scratch : ℕ) (operator : Operator) → IsClosed (checked_code (op_of operator) scratch)
-operator_closed scratch Add = (add-checked scratch).closed
-operator_closed scratch Subtract = (sub-checked scratch).closed
-operator_closed scratch AddWrapping = (add_wrap-checked scratch).closed
-
 action_closed : (scratch : ℕ) (a : Action) → IsClosed (action_code scratch a)
 action_closed scratch (action.Parameter n) = closed-instr (LocalGet n) refl
 action_closed scratch (action.Number n) = closed-instr (I32Const _) refl
-action_closed scratch (action.Operate operator) = operator_closed scratch operator
+action_closed scratch (action.Operate operator) = (arithmetic-right operator scratch).closed
 action_closed scratch (action.Call k) = closed-instr (Call k) refl
 
 actions_closed : (scratch : ℕ) (actions : List Action) → IsClosed (flat_map (action_code scratch) actions)

@@ -1,30 +1,37 @@
 -- What the code of each step does, and of steps one after another.
-use Rattle.std.proofs.Common.{◌≡◌, ℕ, ◌%◌, ◌<◌, ◌^◌, Bool, true, false, List, [], ◌∷◌, ◌++◌, length, Option, Some, None, refl, sym, ap, ◌∙◌, subst, append_assoc, Contains}
+use Rattle.std.proofs.Common.{◌≡◌, ℕ, ℤ, pos, negsuc, ◌%◌, ◌<◌, ◌^◌, Bool, true, false, List, [], ◌∷◌, ◌++◌, length, Result, Ok, Err, refl, sym, ap, ◌∙◌, subst, append_assoc, Contains}
 use Rattle.std.proofs.lemmas.Grind.{flat_map-append}
 use Rattle.std.proofs.lemmas.Int.{of_z-to_z}
 use Rattle.std.proofs.lemmas.List.{append-nil}
 use Rattle.std.proofs.lemmas.List.Elements.{All-head}
 use Rattle.std.specs.Int.{cast_signed, w32}
+use Rattle.std.specs.Option.{option_map}
+use Rattle.std.specs.Prelude.{unsigned_abs}
+use Rattle.std.specs.Result.{result_ok}
 use Rattle.std.specs.List.{flat_map}
 use Rattle.zw_names.specs.NameSets.{number_in}
 use Rattle.zw_form.specs.Programs.{action_of}
 use Rattle.zw_form.specs.Rules.{IsKnown}
 use Rattle.zw_form.specs.Source.{Evaluated, Gives, gives, and_then, operator_value, or_overflow, event_of, asked}
 use Rattle.zw_form.specs.declared.source.ExternFunction.{ExternFunction}
-use Rattle.zw_form.specs.declared.source.Operator.{Operator}
-use Rattle.zw_form.specs.declared.source.Operator.TheVariants.{Add, Subtract, AddWrapping}
+use Rattle.zw_num.specs.Meanings.{arithmetic}
+use Rattle.zw_num.specs.declared.num_fault.NumFault.{NumFault}
+use Rattle.zw_num.specs.declared.operator.Arithmetic.{Arithmetic}
+use Rattle.zw_num.specs.declared.operator.Operator.TheVariants as family
 use Rattle.zw_form.specs.declared.source.Step.{Step}
 use Rattle.zw_form.specs.declared.source.Step.TheVariants as step
 use Rattle.zw_lower.proofs.BodySmall.{AreArgs}
 use Rattle.zw_lower.proofs.ComesCompose.{gone_on, IfGives, comes-then, goes_on-quietly, goes_on-pushing}
 use Rattle.zw_lower.proofs.HostCalls.{IsHostCall, host_call}
+use Rattle.zw_lower.proofs.OnU32.{IsNumberOrOverflow, arithmetic-is, arithmetic-right, word-in, in-word, never-below, word-is}
 use Rattle.zw_lower.proofs.Running.{Comes, GoesOn, Imports, one_number, numbers_reversed, steps_code, words}
 use Rattle.zw_lower.proofs.StepsReady.{Ready, HasLocals}
-use Rattle.zw_lower.specs.Modules.{action_code}
-use Rattle.zw_safety.proofs.CheckedTypes.{add-checked, sub-checked, add_wrap-checked}
+use Rattle.zw_lower.specs.Modules.{action_code, on_u32}
 use Rattle.zw_safety.proofs.Locals.{keeps-same}
 use Rattle.zw_session.specs.Causes.{integer_overflow}
-use Rattle.zw_safety.specs.Checked.{Answers, KeepsOthers, panicked}
+use Rattle.zw_safety.specs.Checked.{u32, KeepsOthers, panicked}
+use Rattle.zw_safety.specs.Families.{stored_code}
+use Rattle.zw_safety_narrow.specs.Operators.{EndsWith, cause_of, filled}
 use Rattle.zw_wasm.proofs.RunsCompose.{runs-none, runs-local_get, runs-i32_const, runs-host_void, runs-host_reply, halts-host_wants}
 use Rattle.zw_wasm.specs.declared.module.Instr.{Instr}
 use Rattle.zw_wasm.specs.declared.module.Instr.TheVariants.{Call}
@@ -32,8 +39,8 @@ use Rattle.zw_wasm.specs.declared.module.ValType.TheVariants as ty
 use Rattle.zw_wasm.specs.declared.module.Module.{Module}
 use Rattle.zw_wasm.specs.declared.num.Num.{Num}
 use Rattle.zw_wasm.specs.declared.num.Num.TheVariants.{I32}
-use Rattle.zw_wasm.specs.Reduction.{Config, NoReply, with_event, with_world}
-use Rattle.zw_wasm.specs.Sequences.{placed, Runs, Halts}
+use Rattle.zw_wasm.specs.Reduction.{Config, NoReply, Trap, unreachable_trap, with_event, with_world}
+use Rattle.zw_wasm.specs.Sequences.{placed, with_locals, Runs, Halts}
 use Rattle.zw_wasm.specs.Signature.{View}
 use Rattle.zw_wasm.specs.Structure.{Code, Plain, code_of, word_of}
 
@@ -78,26 +85,34 @@ number-comes m v imports params n c os rest small =
 
 -- ---- operators
 
-answers-come : (o : Option ℕ) (m : Module) (v : View) (params : List (List ℕ)) (start : Config) (rest : Code) (os : List Num) → Answers m v (length params) o start rest os → Comes m v params one_number (or_overflow o start.world.replies).events (or_overflow o start.world.replies).end start rest os
-answers-come (Some n) m v params start rest os h =
-    goes_on-quietly m v params (one_number n) h.locals start h.taken rest os h.kept h.runs
-answers-come None m v params start rest os h = record {
+value-comes : (r : Result ℤ NumFault) (m : Module) (v : View) (params : List (List ℕ)) (start : Config) (rest : Code) (os : List Num) → IsNumberOrOverflow r → EndsWith m v (length params) u32 r start rest os → let e = or_overflow (option_map unsigned_abs (result_ok r)) start.world.replies in Comes m v params one_number e.events e.end start rest os
+value-comes (Ok (pos n)) m v params start rest os is h =
+    goes_on-quietly m v params (one_number n) h.locals start h.taken rest os h.kept
+    (subst (λ x. Runs m v start (placed rest (x ∷ os) (with_locals h.locals start)) h.taken) (word-is n (in-word n is)) h.runs)
+value-comes (Ok (negsuc n)) m v params start rest os is h = absurd (never-below n is)
+value-comes (Err fault) m v params start rest os is h = record {
   no_message = refl;
   cause_is = refl;
-  halted = record { world = panicked integer_overflow start.world; taken = h.taken; shown = sym (append-nil start.world.events); halts = h.halts };
+  halted = record {
+    world = panicked integer_overflow start.world;
+    taken = h.taken;
+    shown = sym (append-nil start.world.events);
+    halts = subst (λ f. Halts m v start (Trap unreachable_trap) (panicked (cause_of f) start.world) h.taken) is h.halts;
+  };
   globals = refl;
 }
 
-pub operator-comes : (m : Module) (v : View) (externs : List ExternFunction) (imports params : List (List ℕ)) (values : List ℕ → ℕ) (operator : Operator) (x y : ℕ) (c : Config) (os : List Num) (rest : List Instr) → Ready m v externs imports params values (step.Operate operator ∷ []) [] c → x < 2 ^ 32 → y < 2 ^ 32 → StepsCome m v imports params one_number (or_overflow (operator_value operator x y) c.world.replies) (step.Operate operator ∷ []) c (I32 y ∷ I32 x ∷ os) rest os
-operator-comes m v externs imports params values Add x y c os rest h small_x small_y =
-    let has = All-head (HasLocals imports params c.frame.locals) (step.Operate Add) [] h.at.scratch in
-    answers-come (operator_value Add x y) m v params _ (code_of rest) os ((add-checked (length params)).answers m v c x y os rest small_x small_y has h.at.state)
-operator-comes m v externs imports params values Subtract x y c os rest h small_x small_y =
-    let has = All-head (HasLocals imports params c.frame.locals) (step.Operate Subtract) [] h.at.scratch in
-    answers-come (operator_value Subtract x y) m v params _ (code_of rest) os ((sub-checked (length params)).answers m v c x y os rest small_x small_y has h.at.state)
-operator-comes m v externs imports params values AddWrapping x y c os rest h small_x small_y =
-    let has = All-head (HasLocals imports params c.frame.locals) (step.Operate AddWrapping) [] h.at.scratch in
-    answers-come (operator_value AddWrapping x y) m v params _ (code_of rest) os ((add_wrap-checked (length params)).answers m v c x y os rest small_x small_y has h.at.state)
+pub operator-comes : (m : Module) (v : View) (externs : List ExternFunction) (imports params : List (List ℕ)) (values : List ℕ → ℕ) (operator : Arithmetic) (x y : ℕ) (c : Config) (os : List Num) (rest : List Instr) → Ready m v externs imports params values (step.Operate operator ∷ []) [] c → x < 2 ^ 32 → y < 2 ^ 32 → StepsCome m v imports params one_number (or_overflow (operator_value operator x y) c.world.replies) (step.Operate operator ∷ []) c (I32 y ∷ I32 x ∷ os) rest os
+operator-comes m v externs imports params values operator x y c os rest h small_x small_y =
+    let s = length params in
+    let code = stored_code (family.Arithmetic operator) (on_u32 s) in
+    let r = arithmetic operator u32 (pos x) (pos y) in
+    let has = All-head (HasLocals imports params c.frame.locals) (step.Operate operator) [] h.at.scratch in
+    let ends = (arithmetic-right operator s).ends m v c (pos x) (pos y) os rest (word-in x small_x) (word-in y small_y) has h.at.state in
+    let of_words = subst (λ k. EndsWith m v s u32 r (placed (code_of (code ++ rest)) (k ∷ I32 x ∷ os) c) (code_of rest) os) (word-is y small_y)
+    (subst (λ k. EndsWith m v s u32 r (placed (code_of (code ++ rest)) (filled u32 (pos y) ∷ k ∷ os) c) (code_of rest) os) (word-is x small_x) ends) in
+    let alone = subst (λ is. EndsWith m v s u32 r (placed (code_of (is ++ rest)) (I32 y ∷ I32 x ∷ os) c) (code_of rest) os) (sym (append-nil code)) of_words in
+    value-comes r m v params (placed (code_of ((code ++ []) ++ rest)) (I32 y ∷ I32 x ∷ os) c) (code_of rest) os (arithmetic-is operator (pos x) (pos y)) alone
 
 -- ---- calls
 

@@ -8,11 +8,11 @@ use Rattle.zw_form.specs.declared.program.Action.TheVariants as action
 use Rattle.zw_form.specs.declared.program.Function.{Function}
 use Rattle.zw_form.specs.declared.program.Import.{Import}
 use Rattle.zw_form.specs.declared.program.Program.{Program}
-use Rattle.zw_form.specs.declared.source.Operator.{Operator}
-use Rattle.zw_form.specs.declared.source.Operator.TheVariants.{Add, Subtract, AddWrapping}
-use Rattle.zw_num.specs.declared.op.TheConstants.{ADD, SUB, ADD_WRAP}
-use Rattle.zw_safety.specs.Checked.{needs_scratch}
-use Rattle.zw_safety.specs.Code.{checked_code}
+use Rattle.zw_num.specs.declared.operator.Operator.TheVariants as family
+use Rattle.zw_safety.specs.Checked.{u32}
+use Rattle.zw_safety.specs.Families.{stored_code}
+use Rattle.zw_safety_narrow.specs.Operators.{writes_locals as operator_writes}
+use Rattle.zw_safety_narrow.specs.declared.setting.Setting.{Setting}
 use Rattle.zw_wasm.specs.declared.module.CodeBody.{CodeBody}
 use Rattle.zw_wasm.specs.declared.module.ExportDef.{ExportDef}
 use Rattle.zw_wasm.specs.declared.module.FuncImport.{FuncImport}
@@ -26,24 +26,22 @@ use Rattle.zw_wasm.specs.declared.module.TheConstants.ExportDef.{FUNC, MEMORY, G
 use Rattle.zw_wasm.specs.declared.module.ValType.{ValType}
 use Rattle.zw_wasm.specs.declared.module.ValType.TheVariants.{I32, I64}
 
--- the number of an operator
-abbrev pub op_of : Operator → ℕ
-op_of Add = ADD
-op_of Subtract = SUB
-op_of AddWrapping = ADD_WRAP
+-- an operator on values of `u32`, in a function whose locals behind its parameters begin at this number
+abbrev pub on_u32 : ℕ → Setting
+on_u32 scratch = record { left = u32; right = u32; to = u32; scratch = scratch }
 
 -- the code of an action, in a function whose locals behind its parameters begin at this number
 abbrev pub action_code : ℕ → Action → List Instr
 action_code scratch (action.Parameter n) = LocalGet n ∷ []
 action_code scratch (action.Number n) = I32Const (cast_signed w32 n) ∷ []
-action_code scratch (action.Operate operator) = checked_code (op_of operator) scratch
+action_code scratch (action.Operate operator) = stored_code (family.Arithmetic operator) (on_u32 scratch)
 action_code scratch (action.Call k) = Call k ∷ []
 
 -- whether the code of an action writes locals
 abbrev pub writes_locals : Action → Bool
 writes_locals (action.Parameter n) = false
 writes_locals (action.Number n) = false
-writes_locals (action.Operate operator) = needs_scratch (op_of operator)
+writes_locals (action.Operate operator) = operator_writes (family.Arithmetic operator) (on_u32 0)
 writes_locals (action.Call k) = false
 
 -- four i32 and four i64, where some code writes locals

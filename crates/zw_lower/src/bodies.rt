@@ -1,19 +1,16 @@
 // The bodies of functions.
 ghost use Rattle.std.specs.Prelude.{◌≡◌, ◌++◌, map, IfOk, OnOk};
 ghost use Rattle.std.specs.List.{flat_map, list_any};
-ghost use Rattle.zw_lower.specs.Modules.{action_code, body_of, locals_of, writes_locals};
+ghost use Rattle.zw_lower.specs.Modules.{action_code, body_of, locals_of, on_u32, writes_locals};
 
 use sqlite_items::Items;
 use std::alloc::Global;
 use zw_base::Oom;
-use zw_form::{Action, Function, Operator};
-use zw_num::IntTy;
-use zw_num::op::{ADD, ADD_WRAP, SUB};
-use zw_safety::checked;
+use zw_form::{Action, Function};
+use zw_num::{Arithmetic, IntTy, Operator};
+use zw_safety::{push_checked, writes_locals as operator_writes};
+use zw_safety_narrow::{GREATEST_SCRATCH, Setting};
 use zw_wasm::{CodeBody, Instr, ValType};
-
-/// The greatest number of parameters behind which there are numbers for eight locals.
-const MAX_PARAMS: u32 = 4_294_967_287;
 
 /// The type of all values.
 const U32: IntTy = IntTy::Sized {
@@ -67,7 +64,10 @@ fn some_writes_locals(actions: &[Action]) -> bool
 fn writes_locals(action: Action) -> bool
     ensures { result ≡ writes_locals action }
 {
-    matches!(action, Action::Operate(Operator::Add | Operator::Subtract))
+    match action {
+        Action::Operate(operator) => operator_writes(Operator::Arithmetic(operator), on_u32(0)),
+        Action::Parameter(_) | Action::Number(_) | Action::Call(_) => false,
+    }
 }
 
 /// The code of actions, in a function with so many parameters.
@@ -76,39 +76,44 @@ fn code(alloc: Global, params: u32, actions: &[Action]) -> Result<Vec<Instr>, Oo
 {
     let mut code = Vec::new(alloc);
     for action in actions {
-        push_action(alloc, params, *action, &mut code)?;
+        push_action(params, *action, &mut code)?;
     }
     Ok(code)
 }
 
 /// Appends the code of an action.
-fn push_action(alloc: Global, params: u32, action: Action, code: &mut Vec<Instr>) -> Result<(), Oom>
+fn push_action(params: u32, action: Action, code: &mut Vec<Instr>) -> Result<(), Oom>
     ensures { OnOk result (code.new.items ≡ code.old.items ++ action_code params action) }
 {
     match action {
         Action::Parameter(number) => code.push(Instr::LocalGet(number))?,
         Action::Number(number) => code.push(Instr::I32Const(number.cast_signed()))?,
         Action::Call(import) => code.push(Instr::Call(import))?,
-        Action::Operate(operator) => push_operator(alloc, params, operator, code)?,
+        Action::Operate(operator) => push_operator(params, operator, code)?,
     }
     Ok(())
 }
 
-/// Appends the code of an operator.
-fn push_operator(
-    alloc: Global,
-    params: u32,
-    operator: Operator,
-    code: &mut Vec<Instr>,
-) -> Result<(), Oom>
+/// Appends the code of an operator. It wants memory where behind the parameters there are no numbers for eight locals.
+#[tactic(auto, using(crate::proofs::OnU32::arithmetic_served))]
+fn push_operator(params: u32, operator: Arithmetic, code: &mut Vec<Instr>) -> Result<(), Oom>
     ensures { OnOk result (code.new.items ≡ code.old.items ++ action_code params (Action.Operate operator)) }
 {
-    if params > MAX_PARAMS {
+    if params > GREATEST_SCRATCH {
         return Err(Oom);
     }
-    match operator {
-        Operator::Add => checked(alloc, ADD, U32, U32, U32, params, code),
-        Operator::Subtract => checked(alloc, SUB, U32, U32, U32, params, code),
-        Operator::AddWrapping => checked(alloc, ADD_WRAP, U32, U32, U32, params, code),
+    push_checked(Operator::Arithmetic(operator), on_u32(params), code)?;
+    Ok(())
+}
+
+/// An operator on values of `u32`, in a function with so many parameters.
+fn on_u32(params: u32) -> Setting
+    ensures { result ≡ on_u32 params }
+{
+    Setting {
+        left: U32,
+        right: U32,
+        to: U32,
+        scratch: params,
     }
 }

@@ -11,7 +11,6 @@ mod families;
 mod int_ty;
 mod laws;
 mod num_fault;
-pub mod op;
 mod operator;
 mod reversal;
 mod rounding;

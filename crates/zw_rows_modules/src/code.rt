@@ -4,17 +4,18 @@ ghost use Rattle.std.specs.Prelude.{◌≤◌};
 use sqlite_items::Items;
 use std::alloc::Global;
 use zw_base::Oom;
-use zw_num::IntTy;
+use zw_num::{IntTy, Operator};
 use zw_outside::MemSink;
 use zw_rows_base::{Field, Mistake, Problem, Report};
-use zw_rows_values::{operator_of, type_of};
-use zw_safety::{checked, is_served};
+use zw_rows_values::{operator_named, type_of};
+use zw_safety::{has_checked, push_checked};
+use zw_safety_narrow::Setting;
 use zw_wasm::{CodeBody, ExportDef, FuncType, GlobalDef, Instr, Module, ValType, write};
 
 /// An operator with the types of its operands, of which there may be one, and of its result.
 #[derive(Clone, Copy)]
 pub struct Typed {
-    pub operator: u16,
+    pub operator: Operator,
     pub left: IntTy,
     pub right: Option<IntTy>,
     pub to: IntTy,
@@ -50,7 +51,7 @@ pub fn check_code(alloc: Global, fields: &[Field<'_>]) -> Result<Report, Mistake
 
 /// The operator and the types of these words.
 pub fn typed_of(operator: &str, types: &str) -> Option<Typed> {
-    let operator = operator_of(operator)?;
+    let operator = operator_named(operator)?;
     let (left, rest) = types.split_once(' ')?;
     let left = type_of(left)?;
     match rest.split_once(' ') {
@@ -69,29 +70,26 @@ pub fn typed_of(operator: &str, types: &str) -> Option<Typed> {
     }
 }
 
-/// The number of the first local that the code may write.
-fn scratch(typed: Typed) -> u32
-    ensures { result ≤ 2 }
+/// What the code is made for: the locals that it may write begin behind the operands.
+fn setting(typed: Typed) -> Setting
+    ensures { result.scratch ≤ 2 }
 {
-    if typed.right.is_some() { 2 } else { 1 }
+    Setting {
+        left: typed.left,
+        right: typed.right.unwrap_or(typed.left),
+        to: typed.to,
+        scratch: if typed.right.is_some() { 2 } else { 1 },
+    }
 }
 
 /// The code of an operator, where it is served.
 pub fn code_of(alloc: Global, typed: Typed) -> Result<Option<Vec<Instr>>, Oom> {
-    let right = typed.right.unwrap_or(typed.left);
-    if !is_served(typed.operator, typed.left, right, typed.to) {
+    let setting = setting(typed);
+    if !has_checked(typed.operator, setting) {
         return Ok(None);
     }
     let mut code = Vec::new(alloc);
-    checked(
-        alloc,
-        typed.operator,
-        typed.left,
-        right,
-        typed.to,
-        scratch(typed),
-        &mut code,
-    )?;
+    push_checked(typed.operator, setting, &mut code)?;
     Ok(Some(code))
 }
 

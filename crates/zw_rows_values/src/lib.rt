@@ -4,7 +4,6 @@
 mod applied;
 mod coercions;
 mod num;
-mod numbers;
 mod operators;
 mod parts;
 mod types;
@@ -12,7 +11,6 @@ mod types;
 pub use applied::check_applied;
 pub use coercions::check_coercions;
 pub use num::{check_num, type_of};
-pub use numbers::operator_of;
 pub use operators::operator_named;
 pub use parts::check_parts;
 pub use types::check_types;

@@ -1,6 +1,3 @@
 pub mod Locals
-pub mod CheckedTypes
-pub mod WideRight
-pub mod ServedTests
-pub mod FamiliesSame
+pub mod WideFamiliesRight
 pub mod FamiliesServed

@@ -1,11 +1,11 @@
 // The code of checked operators by family.
 ghost use Rattle.std.specs.Prelude.{◌≡◌, ◌↔◌, ◌≤◌, ◌++◌, IsTrue, OnOk};
-ghost use Rattle.zw_safety.specs.Families.{IsServed, IsRight, is_served, serves_in_32, serves_in_64, fit_in, amount_fits, bytes_fit, types_fit, is_kept_shift, has_code, has_two, has_one, is_not, last_type, goes_wide, stored_code};
+ghost use Rattle.zw_safety.specs.Families.{IsServed, is_served, serves_in_32, serves_in_64, has_at_most, fit_in, amount_fits, bytes_fit, types_fit, is_kept_shift, last_type, goes_wide, stored_code};
+ghost use Rattle.zw_safety_narrow.specs.Operators.{IsRight, has_code, has_two, has_one, is_not, is_wrapping_sum, writes_locals};
 ghost use Rattle.zw_safety_narrow.specs.declared.setting.TheConstants.{GREATEST_SCRATCH};
 
-use crate::served::has_at_most;
 use std::alloc::AllocError;
-use zw_num::{IntTy, Logic, Operator, Shift, Unary};
+use zw_num::{Arithmetic, IntTy, Logic, Operator, Shift, Unary};
 use zw_safety_narrow::{Setting, holds, is_unsigned, push_narrow, width};
 use zw_safety_wide::{are_wide_shares, push_wide};
 use zw_safety_words::fill_words;
@@ -32,6 +32,20 @@ pub fn push_checked(
     } else {
         push_narrow(operator, setting, out)
     }
+}
+
+/// Whether the code of an operator writes locals.
+pub fn writes_locals(operator: Operator, setting: Setting) -> bool
+    ensures { result ≡ writes_locals operator setting }
+{
+    !is_wrapping_sum(operator) || !fill_words(setting.left, setting.right, setting.to)
+}
+
+/// Whether it is `+%`.
+fn is_wrapping_sum(operator: Operator) -> bool
+    ensures { result ≡ is_wrapping_sum operator }
+{
+    matches!(operator, Operator::Arithmetic(Arithmetic::AddWrap))
 }
 
 /// Whether an `i64` is among operands and result.
@@ -141,6 +155,16 @@ fn fit_in(most: u8, operator: Operator, setting: Setting) -> bool
     has_at_most(most, setting.left)
         && (!has_two(operator) || has_at_most(most, setting.right))
         && has_at_most(most, setting.to)
+}
+
+/// Whether a sized type has at most so many bits.
+fn has_at_most(most: u8, ty: IntTy) -> bool
+    ensures { result ≡ has_at_most most ty }
+{
+    match ty {
+        IntTy::Sized { bits, .. } => bits <= most,
+        IntTy::Comptime => false,
+    }
 }
 
 /// Whether a shift takes amounts of the type, if the operator is `<<|`.

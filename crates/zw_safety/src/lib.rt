@@ -2,11 +2,5 @@
 #![tactic(auto)]
 
 mod families;
-mod laws;
-mod operators;
-mod served;
 
-pub use families::{has_checked, push_checked};
-pub use laws::checked_code_is_right;
-pub use operators::checked;
-pub use served::is_served;
+pub use families::{has_checked, push_checked, writes_locals};

@@ -11,7 +11,7 @@ use Rattle.zw_num.specs.declared.int_ty.IntTy.{IntTy}
 use Rattle.zw_safety_narrow.proofs.NarrowRuns.{EndsOn}
 use Rattle.zw_safety_narrow.proofs.OrderRuns.{leads, ends_with}
 use Rattle.zw_safety_narrow.proofs.Pieces.{steps-word}
-use Rattle.zw_safety_narrow.specs.OperatorCode.{word_code}
+use Rattle.zw_safety_narrow.specs.WordCode.{word_code}
 use Rattle.zw_safety_narrow.specs.Operators.{IsNarrow}
 use Rattle.zw_wasm.specs.declared.module.BinaryOperator.{BinaryOperator}
 use Rattle.zw_wasm.specs.declared.module.Instr.{Instr}

@@ -1,19 +1,24 @@
 -- The code of operators of one operand is right wherever it stands.
-use Rattle.std.proofs.Common.{ℕ, pos, ◌+◌, ◌-◌, ◌/◌, ◌^◌, Bool, true, false, List, [], ◌∷◌, refl, sym, subst}
+use Rattle.std.proofs.Common.{ℕ, pos, neg_ℤ, ◌+◌, ◌-◌, ◌/◌, ◌^◌, Bool, true, false, List, [], ◌∷◌, refl, sym, subst}
 use Rattle.std.specs.Prelude.{nat_lt, nat_le, if◌then◌else◌}
 use Rattle.zw_num.specs.Arithmetic.{width}
 use Rattle.zw_num.specs.declared.int_ty.IntTy.{IntTy}
 use Rattle.zw_num.specs.declared.int_ty.IntTy.TheVariants.{Sized, Comptime}
-use Rattle.zw_num.specs.declared.op.TheConstants.{NEG, BIT_NOT, NEG_WRAP, NOT, ABS, AS, INT_FROM_BOOL, INT_CAST, TRUNCATE, BIT_CAST}
-use Rattle.zw_safety_narrow.proofs.CastRuns.{stays, cast-ends, truncated-ends, negated-ends, opposite-ends, turned-ends, distance-ends, not-ends}
+use Rattle.zw_num.specs.declared.operator.Operator.TheVariants as family
+use Rattle.zw_num.specs.declared.operator.Cast.TheVariants as cast_op
+use Rattle.zw_num.specs.declared.operator.Logic.TheVariants as logic_op
+use Rattle.zw_num.specs.declared.operator.Unary.TheVariants as unary_op
+use Rattle.zw_safety_narrow.proofs.CastRuns.{EndsOnOne, stays, cast-ends, truncated-ends, negated-ends, opposite-ends, turned-ends, distance-ends, not-ends}
 use Rattle.zw_safety_narrow.proofs.CheckedTypes.{first_local, takes-if_panics}
 use Rattle.zw_safety_narrow.proofs.NarrowTypes.{type-narrow, long_local, takes-extension, takes-long, takes-long_const, takes-in_range, takes-wrap, takes-word, takes-if_narrower}
 use Rattle.zw_safety_narrow.proofs.OrderRight.{takes-compare, takes-select, takes-tee}
+use Rattle.zw_safety_narrow.proofs.SizedTypes.{sized_wraps, narrow_sized}
 use Rattle.zw_safety_narrow.specs.CastCode.{tested, above, outside, negative, cast_code, holds, truncated_code, negated, negated_code, opposite_code, turned, turned_code, distance, distance_code}
 use Rattle.zw_safety_narrow.specs.Checked.{ScratchIsTyped, PanicStateIsTyped}
 use Rattle.zw_safety_narrow.specs.NarrowCode.{narrowed, fitted}
-use Rattle.zw_safety_narrow.specs.OperatorCode.{not_code}
-use Rattle.zw_safety_narrow.specs.Operators.{IsNarrow, IsRightOnOne, type_of}
+use Rattle.zw_safety_narrow.specs.WordCode.{not_code}
+use Rattle.zw_safety_narrow.specs.Operators.{IsNarrow, IsRightOfOne, type_of}
+use Rattle.zw_safety_narrow.specs.declared.setting.Setting.{Setting}
 use Rattle.zw_wasm.proofs.Closing.{closed-then}
 use Rattle.zw_wasm.proofs.TypingTakes.{takes-none, takes-then, takes-instr, takes-local_get, takes-local_set, takes-i32_const}
 use Rattle.zw_wasm.specs.declared.module.BinaryOperator.TheVariants.{Add, Mul, Xor}
@@ -130,60 +135,62 @@ closed-distance Comptime s = closed-nothing
 
 -- ---- the operators
 
-pub neg_wrap-right : (from to : IntTy) (s : ℕ) → IsNarrow from → IsNarrow to → IsRightOnOne NEG_WRAP from to s (negated_code to)
-neg_wrap-right from to s hf ht = record {
-  ends = λ m v c a os rest i scratch state. negated-ends m v c s from to a os rest hf ht;
-  typed = λ x ts scratch state. one-takes x (negated_code to) ts from to hf ht (takes-then (takes-negated x ts) (takes-fitted x to ts));
-  closed = closed-then negated (fitted to) (record { by = λ open_ifs rest h. h }) (closed-fitted to);
+pub neg_wrap-right : (t : Setting) → IsNarrow t.left → IsNarrow t.to → IsRightOfOne (family.Unary unary_op.NegWrap) t (negated_code t.to)
+neg_wrap-right t hf ht = record {
+  ends = λ m v c a os rest i scratch state.
+      subst (λ r. EndsOnOne m v c t.scratch t.left t.to a os (negated_code t.to) rest r) (sym (sized_wraps t.to (neg_ℤ a) (narrow_sized t.to ht)))
+      (negated-ends m v c t.scratch t.left t.to a os rest hf ht);
+  typed = λ x ts scratch state. one-takes x (negated_code t.to) ts t.left t.to hf ht (takes-then (takes-negated x ts) (takes-fitted x t.to ts));
+  closed = closed-then negated (fitted t.to) (record { by = λ open_ifs rest h. h }) (closed-fitted t.to);
 }
 
-pub not-right : (from to : IntTy) (s : ℕ) → IsNarrow from → IsNarrow to → IsRightOnOne NOT from to s not_code
-not-right from to s hf ht = record {
-  ends = λ m v c a os rest i scratch state. not-ends m v c s from to a os rest hf ht i;
-  typed = λ x ts scratch state. one-takes x not_code ts from to hf ht (takes-not x ts);
+pub not-right : (t : Setting) → IsNarrow t.left → IsNarrow t.to → IsRightOfOne (family.Logic logic_op.Not) t not_code
+not-right t hf ht = record {
+  ends = λ m v c a os rest i scratch state. not-ends m v c t.scratch t.left t.to a os rest hf ht i;
+  typed = λ x ts scratch state. one-takes x not_code ts t.left t.to hf ht (takes-not x ts);
   closed = record { by = λ open_ifs rest h. h };
 }
 
-pub abs-right : (from to : IntTy) (s : ℕ) → IsNarrow from → IsNarrow to → IsRightOnOne ABS from to s (distance_code from s)
-abs-right from to s hf ht = record {
-  ends = λ m v c a os rest i scratch state. distance-ends m v c s from to a os rest hf ht i (scratch refl);
-  typed = λ x ts scratch state. one-takes x (distance_code from s) ts from to hf ht (takes-distance_of x from s ts (scratch refl));
-  closed = closed-distance from s;
+pub abs-right : (t : Setting) → IsNarrow t.left → IsNarrow t.to → IsRightOfOne (family.Unary unary_op.Abs) t (distance_code t.left t.scratch)
+abs-right t hf ht = record {
+  ends = λ m v c a os rest i scratch state. distance-ends m v c t.scratch t.left t.to a os rest hf ht i scratch;
+  typed = λ x ts scratch state. one-takes x (distance_code t.left t.scratch) ts t.left t.to hf ht (takes-distance_of x t.left t.scratch ts scratch);
+  closed = closed-distance t.left t.scratch;
 }
 
-pub as-right : (from to : IntTy) (s : ℕ) → IsNarrow from → IsNarrow to → IsRightOnOne AS from to s []
-as-right from to s hf ht = record {
-  ends = λ m v c a os rest i scratch state. stays m v c s from to a a os rest hf ht refl;
-  typed = λ x ts scratch state. one-takes x [] ts from to hf ht (takes-none x (I32 ∷ ts));
+pub as-right : (t : Setting) → IsNarrow t.left → IsNarrow t.to → IsRightOfOne (family.Cast cast_op.As) t []
+as-right t hf ht = record {
+  ends = λ m v c a os rest i scratch state. stays m v c t.scratch t.left t.to a a os rest hf ht refl;
+  typed = λ x ts scratch state. one-takes x [] ts t.left t.to hf ht (takes-none x (I32 ∷ ts));
   closed = closed-nothing;
 }
 
-pub from_bool-right : (from to : IntTy) (s : ℕ) → IsNarrow from → IsNarrow to → IsRightOnOne INT_FROM_BOOL from to s []
-from_bool-right from to s hf ht = record {
-  ends = λ m v c a os rest i scratch state. stays m v c s from to a a os rest hf ht refl;
-  typed = λ x ts scratch state. one-takes x [] ts from to hf ht (takes-none x (I32 ∷ ts));
+pub from_bool-right : (t : Setting) → IsNarrow t.left → IsNarrow t.to → IsRightOfOne (family.Cast cast_op.IntFromBool) t []
+from_bool-right t hf ht = record {
+  ends = λ m v c a os rest i scratch state. stays m v c t.scratch t.left t.to a a os rest hf ht refl;
+  typed = λ x ts scratch state. one-takes x [] ts t.left t.to hf ht (takes-none x (I32 ∷ ts));
   closed = closed-nothing;
 }
 
-pub cast-right : (from to : IntTy) (s : ℕ) → IsNarrow from → IsNarrow to → IsRightOnOne INT_CAST from to s (cast_code from to s)
-cast-right from to s hf ht = record {
-  ends = λ m v c a os rest i scratch state. cast-ends m v c s from to a os rest hf ht i (scratch refl) state;
-  typed = λ x ts scratch state. one-takes x (cast_code from to s) ts from to hf ht (takes-cast x from to s ts (scratch refl) state);
-  closed = closed-cast from to s;
+pub cast-right : (t : Setting) → IsNarrow t.left → IsNarrow t.to → IsRightOfOne (family.Cast cast_op.IntCast) t (cast_code t.left t.to t.scratch)
+cast-right t hf ht = record {
+  ends = λ m v c a os rest i scratch state. cast-ends m v c t.scratch t.left t.to a os rest hf ht i scratch state;
+  typed = λ x ts scratch state. one-takes x (cast_code t.left t.to t.scratch) ts t.left t.to hf ht (takes-cast x t.left t.to t.scratch ts scratch state);
+  closed = closed-cast t.left t.to t.scratch;
 }
 
-pub truncate-right : (from to : IntTy) (s : ℕ) → IsNarrow from → IsNarrow to → IsRightOnOne TRUNCATE from to s (truncated_code from to)
-truncate-right from to s hf ht = record {
-  ends = λ m v c a os rest i scratch state. truncated-ends m v c s from to a os rest hf ht i;
-  typed = λ x ts scratch state. one-takes x (truncated_code from to) ts from to hf ht (takes-truncated x from to ts);
-  closed = closed-unless (holds to from) (fitted to) (closed-fitted to);
+pub truncate-right : (t : Setting) → IsNarrow t.left → IsNarrow t.to → IsRightOfOne (family.Cast cast_op.Truncate) t (truncated_code t.left t.to)
+truncate-right t hf ht = record {
+  ends = λ m v c a os rest i scratch state. truncated-ends m v c t.scratch t.left t.to a os rest hf ht i;
+  typed = λ x ts scratch state. one-takes x (truncated_code t.left t.to) ts t.left t.to hf ht (takes-truncated x t.left t.to ts);
+  closed = closed-unless (holds t.to t.left) (fitted t.to) (closed-fitted t.to);
 }
 
-pub bit_cast-right : (from to : IntTy) (s : ℕ) → IsNarrow from → IsNarrow to → IsRightOnOne BIT_CAST from to s (truncated_code from to)
-bit_cast-right from to s hf ht = record {
-  ends = λ m v c a os rest i scratch state. truncated-ends m v c s from to a os rest hf ht i;
-  typed = λ x ts scratch state. one-takes x (truncated_code from to) ts from to hf ht (takes-truncated x from to ts);
-  closed = closed-unless (holds to from) (fitted to) (closed-fitted to);
+pub bit_cast-right : (t : Setting) → IsNarrow t.left → IsNarrow t.to → IsRightOfOne (family.Cast cast_op.BitCast) t (truncated_code t.left t.to)
+bit_cast-right t hf ht = record {
+  ends = λ m v c a os rest i scratch state. truncated-ends m v c t.scratch t.left t.to a os rest hf ht i;
+  typed = λ x ts scratch state. one-takes x (truncated_code t.left t.to) ts t.left t.to hf ht (takes-truncated x t.left t.to ts);
+  closed = closed-unless (holds t.to t.left) (fitted t.to) (closed-fitted t.to);
 }
 
 takes-opposite : (x : Context) (from to : IntTy) (s : ℕ) (ts : List ValType) → ScratchIsTyped s x.locals → PanicStateIsTyped x.module_ → Takes x (opposite_code from to s) (I32 ∷ ts) (I32 ∷ ts)
@@ -200,16 +207,16 @@ closed-opposite from (Sized true count) s = record { by = λ open_ifs rest h. h 
 closed-opposite from (Sized false count) s = record { by = λ open_ifs rest h. h }
 closed-opposite from Comptime s = record { by = λ open_ifs rest h. h }
 
-pub neg-right : (from to : IntTy) (s : ℕ) → IsNarrow from → IsNarrow to → IsRightOnOne NEG from to s (opposite_code from to s)
-neg-right from to s hf ht = record {
-  ends = λ m v c a os rest i scratch state. opposite-ends m v c s from to a os rest hf ht i (scratch refl) state;
-  typed = λ x ts scratch state. one-takes x (opposite_code from to s) ts from to hf ht (takes-opposite x from to s ts (scratch refl) state);
-  closed = closed-opposite from to s;
+pub neg-right : (t : Setting) → IsNarrow t.left → IsNarrow t.to → IsRightOfOne (family.Unary unary_op.Neg) t (opposite_code t.left t.to t.scratch)
+neg-right t hf ht = record {
+  ends = λ m v c a os rest i scratch state. opposite-ends m v c t.scratch t.left t.to a os rest hf ht i scratch state;
+  typed = λ x ts scratch state. one-takes x (opposite_code t.left t.to t.scratch) ts t.left t.to hf ht (takes-opposite x t.left t.to t.scratch ts scratch state);
+  closed = closed-opposite t.left t.to t.scratch;
 }
 
-pub bit_not-right : (from to : IntTy) (s : ℕ) → IsNarrow from → IsNarrow to → IsRightOnOne BIT_NOT from to s (turned_code to)
-bit_not-right from to s hf ht = record {
-  ends = λ m v c a os rest i scratch state. turned-ends m v c s from to a os rest hf ht;
-  typed = λ x ts scratch state. one-takes x (turned_code to) ts from to hf ht (takes-then (takes-then (takes-i32_const x _ (I32 ∷ ts)) (takes-word x Xor ts)) (takes-fitted x to ts));
-  closed = closed-then turned (fitted to) (record { by = λ open_ifs rest h. h }) (closed-fitted to);
+pub bit_not-right : (t : Setting) → IsNarrow t.left → IsNarrow t.to → IsRightOfOne (family.Unary unary_op.BitNot) t (turned_code t.to)
+bit_not-right t hf ht = record {
+  ends = λ m v c a os rest i scratch state. turned-ends m v c t.scratch t.left t.to a os rest hf ht;
+  typed = λ x ts scratch state. one-takes x (turned_code t.to) ts t.left t.to hf ht (takes-then (takes-then (takes-i32_const x _ (I32 ∷ ts)) (takes-word x Xor ts)) (takes-fitted x t.to ts));
+  closed = closed-then turned (fitted t.to) (record { by = λ open_ifs rest h. h }) (closed-fitted t.to);
 }

@@ -9,6 +9,7 @@ use Rattle.std.proofs.Math.Nat.{pow-le-pow_right, mod-eq_of_lt}
 use Rattle.std.proofs.lemmas.Nat.Bits.{bit_at_xor, bit_at-lt, bit_at-zero, same_from_bits}
 use Rattle.std.specs.Int.{w32, w64, bit_at}
 use Rattle.std.specs.Ordering.{int_eq}
+use Rattle.zw_num.specs.Meanings.{number_of_truth}
 use Rattle.zw_num.proofs.WrappedLemmas.{test_from_in, wrapped_same}
 use Rattle.zw_num.specs.Arithmetic.{IsIn, is_in, exact, least, pattern, wrapped, cast_to, bits_xor, bits_not}
 use Rattle.zw_num.specs.declared.int_ty.IntTy.{IntTy}
@@ -26,8 +27,8 @@ use Rattle.zw_safety_narrow.proofs.Words.{IsWord, IsLong, word-narrow, fits_sign
 use Rattle.zw_safety_narrow.specs.CastCode.{tested, above, outside, negative, cast_code, holds, truncated_code, negated, negated_code, opposite_code, turned_code, distance, distance_code}
 use Rattle.zw_safety_narrow.specs.Checked.{HasScratch, HasPanicState}
 use Rattle.zw_safety_narrow.specs.NarrowCode.{extension, fitted}
-use Rattle.zw_safety_narrow.specs.OperatorCode.{not_code}
-use Rattle.zw_safety_narrow.specs.Operators.{IsNarrow, EndsWith, cause_of, filled, truth}
+use Rattle.zw_safety_narrow.specs.WordCode.{not_code}
+use Rattle.zw_safety_narrow.specs.Operators.{IsNarrow, EndsWith, cause_of, filled}
 use Rattle.zw_wasm.specs.declared.module.BinaryOperator.TheVariants.{Add, Mul, Xor}
 use Rattle.zw_wasm.specs.declared.module.Comparison.TheVariants.{LtS, GtU}
 use Rattle.zw_wasm.specs.declared.module.Conversion.TheVariants.{Wrap}
@@ -350,14 +351,14 @@ zero_test a h =
     let test = Decides-eqb (pattern 32 a) 0 in
     same_from_decides {P = a ≡ pos 0} (nat_eq (pattern 32 a) 0) (int_eq a (pos 0)) (λ e. zero_is a h (test.0 e), λ e. test.1 (ap (pattern 32) e)) (Decides-int_eq a (pos 0))
 
-pub truth_bits : (t : Bool) → bit_of t ≡ pattern 32 (truth t)
+pub truth_bits : (t : Bool) → bit_of t ≡ pattern 32 (number_of_truth t)
 truth_bits true = refl
 truth_bits false = refl
 
-pub not-ends : (m : Module) (v : View) (c : Config) (s : ℕ) (from to : IntTy) (a : ℤ) (os : List Num) (rest : List Instr) → IsNarrow from → IsNarrow to → IsIn from a → EndsOnOne m v c s from to a os not_code rest (Ok (truth (int_eq a (pos 0))))
+pub not-ends : (m : Module) (v : View) (c : Config) (s : ℕ) (from to : IntTy) (a : ℤ) (os : List Num) (rest : List Instr) → IsNarrow from → IsNarrow to → IsIn from a → EndsOnOne m v c s from to a os not_code rest (Ok (number_of_truth (int_eq a (pos 0))))
 not-ends m v c s from to a os rest hf ht i =
     let t = int_eq a (pos 0) in
-    one_ends_with m v c s from to a (truth t) os not_code rest (bit_of t) 1 hf ht (lit≤ tt) (truth_bits t)
+    one_ends_with m v c s from to a (number_of_truth t) os not_code rest (bit_of t) 1 hf ht (lit≤ tt) (truth_bits t)
     (leads s (moves-is_zero m v c (pattern 32 a) t os c.frame.locals (zero_test a (word-narrow from a hf i))))
 
 -- ---- `-` in 64 bits

@@ -5,7 +5,7 @@ use Rattle.std.proofs.lemmas.List.{length-set}
 use Rattle.std.proofs.lemmas.Bool.{ltb-true, ltb-false, lt-ltb, le-ltb, le-leb}
 use Rattle.std.proofs.lemmas.Bool.Decides.{nat_tests}
 use Rattle.std.proofs.Math.Nat.{mod-eq_of_lt}
-use Rattle.zw_num.specs.Arithmetic.{sum_in, difference_in, add_wrap_unsigned}
+use Rattle.zw_num.specs.Arithmetic.{sum_in, difference_in}
 use Rattle.zw_safety_narrow.proofs.Locals.{slice_get-set_same, slice_get-set_other, keeps-same, keeps-set}
 use Rattle.zw_safety_narrow.proofs.Panics.{if_panics-halts, if_panics-passed}
 use Rattle.zw_safety_narrow.specs.Checked.{HasScratch, HasPanicState, KeepsOthers, Answers}
@@ -160,9 +160,3 @@ add-answers_for false m v c s x y rest os e h state small_x small_y =
 
 pub add-answers : (m : Module) (v : View) (c : Config) (s x y : ℕ) (rest : List Instr) (os : List Num) → HasScratch s c.frame.locals → HasPanicState c.world.store → x < 2 ^ 32 → y < 2 ^ 32 → Answers m v s (sum_in 32 x y) (placed (code_of (add_code s ++ rest)) (I32 y ∷ I32 x ∷ os) c) (code_of rest) os
 add-answers m v c s x y rest os h state small_x small_y = add-answers_for (nat_lt ((x + y) % 2 ^ 32) x) m v c s x y rest os refl h state small_x small_y
-
--- ---- the sum that wraps
-
-pub add_wrap-answers : (m : Module) (v : View) (c : Config) (s x y : ℕ) (rest : List Instr) (os : List Num) → Answers m v s (Some (add_wrap_unsigned 32 x y)) (placed (code_of (i32_add ∷ rest)) (I32 y ∷ I32 x ∷ os) c) (code_of rest) os
-add_wrap-answers m v c s x y rest os =
-    record { locals = c.frame.locals; kept = keeps-same s c.frame.locals; taken = 1; few = lit≤ tt; runs = runs-i32_add m v c x y (code_of rest) os }

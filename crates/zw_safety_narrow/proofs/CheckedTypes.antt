@@ -1,11 +1,8 @@
--- The types of the code of each operator, and that it may stand anywhere.
-use Rattle.std.proofs.Common.{◌≡◌, ℕ, ◌+◌, List, [], ◌∷◌, Some, refl, sym, subst, inl, inr, pos, lit<, add-zero}
+-- The types of the code of `+` and `-` on `u32`.
+use Rattle.std.proofs.Common.{◌≡◌, ℕ, ◌+◌, List, [], ◌∷◌, Some, subst, pos, lit<, add-zero}
 use Rattle.std.specs.Prelude.{slice_get}
-use Rattle.zw_num.specs.declared.int_ty.IntTy.{IntTy}
-use Rattle.zw_num.specs.declared.op.TheConstants.{ADD, SUB, ADD_WRAP}
-use Rattle.zw_safety_narrow.proofs.CheckedRuns.{add-answers, sub-answers, add_wrap-answers}
-use Rattle.zw_safety_narrow.specs.Checked.{IsBuilt, ScratchIsTyped, IsNumberGlobal, PanicStateIsTyped, IsChecked}
-use Rattle.zw_safety_narrow.specs.Code.{kept, if_panics, add_code, sub_code, checked_code}
+use Rattle.zw_safety_narrow.specs.Checked.{ScratchIsTyped, IsNumberGlobal, PanicStateIsTyped}
+use Rattle.zw_safety_narrow.specs.Code.{kept, if_panics, add_code, sub_code}
 use Rattle.zw_session.specs.Causes.{integer_overflow}
 use Rattle.zw_wasm.proofs.TypingTakes.{takes-then, takes-local_get, takes-local_set, takes-global_set, takes-i32_const, takes-i32_add, takes-i32_sub, takes-i32_lt_u, takes-if_unreachable}
 use Rattle.zw_wasm.specs.declared.module.Instr.TheVariants.{GlobalSet}
@@ -38,7 +35,7 @@ takes-kept x s ts h =
     (takes-then (takes-local_set x (s + 1) I32 ts left)
     (takes-then (takes-local_get x (s + 1) I32 ts left) (takes-local_get x s I32 (I32 ∷ ts) right)))
 
-takes-sub : (x : Context) (s : ℕ) (ts : List ValType) → ScratchIsTyped s x.locals → PanicStateIsTyped x.module_ → Takes x (sub_code s) (I32 ∷ I32 ∷ ts) (I32 ∷ ts)
+pub takes-sub : (x : Context) (s : ℕ) (ts : List ValType) → ScratchIsTyped s x.locals → PanicStateIsTyped x.module_ → Takes x (sub_code s) (I32 ∷ I32 ∷ ts) (I32 ∷ ts)
 takes-sub x s ts h state =
     let right = first_local s x.locals h in
     let left = second_local s x.locals h in
@@ -48,7 +45,7 @@ takes-sub x s ts h state =
     (takes-then (takes-local_get x (s + 1) I32 ts left)
     (takes-then (takes-local_get x s I32 (I32 ∷ ts) right) (takes-i32_sub x ts)))))
 
-takes-add : (x : Context) (s : ℕ) (ts : List ValType) → ScratchIsTyped s x.locals → PanicStateIsTyped x.module_ → Takes x (add_code s) (I32 ∷ I32 ∷ ts) (I32 ∷ ts)
+pub takes-add : (x : Context) (s : ℕ) (ts : List ValType) → ScratchIsTyped s x.locals → PanicStateIsTyped x.module_ → Takes x (add_code s) (I32 ∷ I32 ∷ ts) (I32 ∷ ts)
 takes-add x s ts h state =
     let right = first_local s x.locals h in
     let left = second_local s x.locals h in
@@ -59,33 +56,3 @@ takes-add x s ts h state =
     (takes-then (takes-local_get x (s + 1) I32 (I32 ∷ ts) left)
     (takes-then (takes-i32_lt_u x ts)
     (takes-then (takes-if_panics x integer_overflow ts state) (takes-local_get x s I32 ts right)))))))
-
-pub add-checked : (s : ℕ) → IsChecked ADD s (checked_code ADD s)
-add-checked s = record {
-  answers = λ m v c x y os rest small_x small_y h state. add-answers m v c s x y rest os (h refl) state small_x small_y;
-  typed = λ x ts h state. takes-add x s ts (h refl) state;
-  closed = record { by = λ open_ifs rest h. h };
-}
-
-pub sub-checked : (s : ℕ) → IsChecked SUB s (checked_code SUB s)
-sub-checked s = record {
-  answers = λ m v c x y os rest small_x small_y h state. sub-answers m v c s x y rest os (h refl) state small_x;
-  typed = λ x ts h state. takes-sub x s ts (h refl) state;
-  closed = record { by = λ open_ifs rest h. h };
-}
-
-pub add_wrap-checked : (s : ℕ) → IsChecked ADD_WRAP s (checked_code ADD_WRAP s)
-add_wrap-checked s = record {
-  answers = λ m v c x y os rest small_x small_y h state. add_wrap-answers m v c s x y rest os;
-  typed = λ x ts h state. takes-i32_add x ts;
-  closed = record { by = λ open_ifs rest h. h };
-}
-
--- the code of each operator that is built
-pub built_checked : (op s : ℕ) (left right to : IntTy) → IsBuilt op left right to → IsChecked op s (checked_code op s)
-built_checked op s left right to built =
-    let P : ℕ → Type 0 = λ n. IsChecked n s (checked_code n s) in
-    elim built.operator [
-      | inl e ↦ subst P (sym e) (add-checked s)
-      | inr h ↦ elim h [ inl e ↦ subst P (sym e) (sub-checked s) | inr e ↦ subst P (sym e) (add_wrap-checked s) ]
-    ]

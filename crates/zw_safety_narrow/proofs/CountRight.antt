@@ -4,7 +4,8 @@ use Rattle.std.specs.Prelude.{nat_lt, if◌then◌else◌}
 use Rattle.zw_num.specs.Arithmetic.{width}
 use Rattle.zw_num.specs.declared.int_ty.IntTy.{IntTy}
 use Rattle.zw_num.specs.declared.int_ty.IntTy.TheVariants.{Sized, Comptime}
-use Rattle.zw_num.specs.declared.op.TheConstants.{CLZ, CTZ, POP_COUNT}
+use Rattle.zw_num.specs.declared.operator.Operator.TheVariants as family
+use Rattle.zw_num.specs.declared.operator.Count.TheVariants as count_op
 use Rattle.zw_safety_narrow.proofs.CastRight.{one-takes, closed-nothing}
 use Rattle.zw_safety_narrow.proofs.CheckedTypes.{first_local}
 use Rattle.zw_safety_narrow.proofs.CountRuns.{ones-ends, leading-ends, trailing-ends}
@@ -13,7 +14,8 @@ use Rattle.zw_safety_narrow.proofs.OrderRight.{takes-compare, takes-select, take
 use Rattle.zw_safety_narrow.specs.Checked.{ScratchIsTyped}
 use Rattle.zw_safety_narrow.specs.CountCode.{own_bits, ones_code, leading_code, at_most, trailing_code}
 use Rattle.zw_safety_narrow.specs.NarrowCode.{masked}
-use Rattle.zw_safety_narrow.specs.Operators.{IsNarrow, IsRightOnOne}
+use Rattle.zw_safety_narrow.specs.Operators.{IsNarrow, IsRightOfOne}
+use Rattle.zw_safety_narrow.specs.declared.setting.Setting.{Setting}
 use Rattle.zw_wasm.proofs.Closing.{closed-then}
 use Rattle.zw_wasm.proofs.TypingTakes.{takes-none, takes-then, takes-instr, takes-local_get, takes-i32_const}
 use Rattle.zw_wasm.specs.declared.module.BinaryOperator.TheVariants.{And, Sub}
@@ -57,33 +59,33 @@ takes-at_most x top s ts h =
     (takes-then (takes-local_get x s I32 (I32 ∷ I32 ∷ ts) there)
     (takes-then (takes-i32_const x (pos top) (I32 ∷ I32 ∷ I32 ∷ ts)) (takes-then (takes-compare x LtU (I32 ∷ I32 ∷ ts)) (takes-select x ts)))))
 
-pub pop_count-right : (from to : IntTy) (s : ℕ) → IsNarrow from → IsNarrow to → IsRightOnOne POP_COUNT from to s (ones_code from)
-pop_count-right from to s hf ht = record {
-  ends = λ m v c a os rest i scratch state. ones-ends m v c s from to a os rest hf ht i;
-  typed = λ x ts scratch state. one-takes x (ones_code from) ts from to hf ht (takes-then (takes-own x from ts) (takes-unary x Popcnt ts));
-  closed = closed-then (own_bits from) (Unary I32 Popcnt ∷ []) (closed-own from) (record { by = λ open_ifs rest h. h });
+pub pop_count-right : (t : Setting) → IsNarrow t.left → IsNarrow t.to → IsRightOfOne (family.Count count_op.PopCount) t (ones_code t.left)
+pop_count-right t hf ht = record {
+  ends = λ m v c a os rest i scratch state. ones-ends m v c t.scratch t.left t.to a os rest hf ht i;
+  typed = λ x ts scratch state. one-takes x (ones_code t.left) ts t.left t.to hf ht (takes-then (takes-own x t.left ts) (takes-unary x Popcnt ts));
+  closed = closed-then (own_bits t.left) (Unary I32 Popcnt ∷ []) (closed-own t.left) (record { by = λ open_ifs rest h. h });
 }
 
-pub clz-right : (from to : IntTy) (s : ℕ) → IsNarrow from → IsNarrow to → IsRightOnOne CLZ from to s (leading_code from)
-clz-right from to s hf ht =
-    let less = I32Const (pos (32 - width from)) ∷ Binary I32 Sub ∷ [] in
-    let b = nat_lt (width from) 32 in
+pub clz-right : (t : Setting) → IsNarrow t.left → IsNarrow t.to → IsRightOfOne (family.Count count_op.Clz) t (leading_code t.left)
+clz-right t hf ht =
+    let less = I32Const (pos (32 - width t.left)) ∷ Binary I32 Sub ∷ [] in
+    let b = nat_lt (width t.left) 32 in
     record {
-      ends = λ m v c a os rest i scratch state. leading-ends m v c s from to a os rest hf ht i;
-      typed = λ x ts scratch state. one-takes x (leading_code from) ts from to hf ht (takes-then (takes-own x from ts)
+      ends = λ m v c a os rest i scratch state. leading-ends m v c t.scratch t.left t.to a os rest hf ht i;
+      typed = λ x ts scratch state. one-takes x (leading_code t.left) ts t.left t.to hf ht (takes-then (takes-own x t.left ts)
           (takes-then (takes-unary x Clz ts) (takes-if b x less ts (takes-then (takes-i32_const x _ (I32 ∷ ts)) (takes-word x Sub ts)))));
-      closed = closed-then (own_bits from) (Unary I32 Clz ∷ (if b then less else [])) (closed-own from)
+      closed = closed-then (own_bits t.left) (Unary I32 Clz ∷ (if b then less else [])) (closed-own t.left)
           (closed-then (Unary I32 Clz ∷ []) (if b then less else []) (record { by = λ open_ifs rest h. h }) (closed-if b less (record { by = λ open_ifs rest h. h })));
     }
 
-pub ctz-right : (from to : IntTy) (s : ℕ) → IsNarrow from → IsNarrow to → IsRightOnOne CTZ from to s (trailing_code from s)
-ctz-right from to s hf ht =
-    let few = at_most (width from) s in
-    let b = nat_lt (width from) 32 in
+pub ctz-right : (t : Setting) → IsNarrow t.left → IsNarrow t.to → IsRightOfOne (family.Count count_op.Ctz) t (trailing_code t.left t.scratch)
+ctz-right t hf ht =
+    let few = at_most (width t.left) t.scratch in
+    let b = nat_lt (width t.left) 32 in
     record {
-      ends = λ m v c a os rest i scratch state. trailing-ends m v c s from to a os rest hf ht i (scratch refl);
-      typed = λ x ts scratch state. one-takes x (trailing_code from s) ts from to hf ht (takes-then (takes-own x from ts)
-          (takes-then (takes-unary x Ctz ts) (takes-if b x few ts (takes-at_most x (width from) s ts (scratch refl)))));
-      closed = closed-then (own_bits from) (Unary I32 Ctz ∷ (if b then few else [])) (closed-own from)
+      ends = λ m v c a os rest i scratch state. trailing-ends m v c t.scratch t.left t.to a os rest hf ht i scratch;
+      typed = λ x ts scratch state. one-takes x (trailing_code t.left t.scratch) ts t.left t.to hf ht (takes-then (takes-own x t.left ts)
+          (takes-then (takes-unary x Ctz ts) (takes-if b x few ts (takes-at_most x (width t.left) t.scratch ts scratch))));
+      closed = closed-then (own_bits t.left) (Unary I32 Ctz ∷ (if b then few else [])) (closed-own t.left)
           (closed-then (Unary I32 Ctz ∷ []) (if b then few else []) (record { by = λ open_ifs rest h. h }) (closed-if b few (record { by = λ open_ifs rest h. h })));
     }

@@ -1,13 +1,16 @@
 -- The code of exact divisions and shifts, and of the shift that stops at the bounds of its type, is right wherever it stands.
-use Rattle.std.proofs.Common.{◌≡◌, ℕ, ◌+◌, Bool, true, false, List, [], ◌∷◌, ◌++◌, Some, refl, subst, lit<, arith}
+use Rattle.std.proofs.Common.{◌≡◌, ℕ, ◌+◌, Bool, true, false, List, [], ◌∷◌, ◌++◌, Some, refl, sym, ◌*ℤ◌, subst, lit<, arith}
 use Rattle.std.specs.Prelude.{nat_lt, ◌&&◌, slice_get, if◌then◌else◌}
-use Rattle.zw_num.specs.Arithmetic.{width}
+use Rattle.zw_num.specs.Arithmetic.{width, power}
 use Rattle.zw_num.specs.declared.int_ty.IntTy.{IntTy}
 use Rattle.zw_num.specs.declared.int_ty.IntTy.TheVariants.{Sized, Comptime}
-use Rattle.zw_num.specs.declared.op.TheConstants.{DIV_EXACT, SHL_EXACT, SHR_EXACT, SHL_SAT}
+use Rattle.zw_num.specs.declared.operator.Operator.TheVariants as family
+use Rattle.zw_num.specs.declared.operator.Division.TheVariants as division_op
+use Rattle.zw_num.specs.declared.operator.Shift.TheVariants as shift_op
 use Rattle.zw_safety_narrow.proofs.CastRight.{takes-unless, closed-unless}
 use Rattle.zw_safety_narrow.proofs.CheckedTypes.{first_local, second_local, takes-if_panics}
 use Rattle.zw_safety_narrow.proofs.CountRight.{takes-at_most}
+use Rattle.zw_safety_narrow.proofs.NarrowRuns.{EndsOn}
 use Rattle.zw_safety_narrow.proofs.ExactRuns.{exact_quotient-ends, left_exact-ends, right_exact-ends}
 use Rattle.zw_safety_narrow.proofs.FloorRight.{takes-both}
 use Rattle.zw_safety_narrow.proofs.NarrowTypes.{long_local, exact_or-closed, takes-exact_or, takes-in_range, takes-long, takes-word, takes-wrap}
@@ -16,6 +19,7 @@ use Rattle.zw_safety_narrow.proofs.OrderRight.{takes-compare, takes-doubled}
 use Rattle.zw_safety_narrow.proofs.SaturatingRight.{takes-natural, takes-saturated, takes-tee_long}
 use Rattle.zw_safety_narrow.proofs.SaturatingShifts.{shift_sat-ends}
 use Rattle.zw_safety_narrow.proofs.ShareRight.{closed-amount, closed-divisor, takes-amount, takes-divisor}
+use Rattle.zw_safety_narrow.proofs.SizedTypes.{sized_saturates, narrow_sized}
 use Rattle.zw_safety_narrow.specs.CastCode.{holds}
 use Rattle.zw_safety_narrow.specs.Checked.{ScratchIsTyped, PanicStateIsTyped}
 use Rattle.zw_safety_narrow.specs.CompareCode.{is_unsigned, doubled}
@@ -23,7 +27,8 @@ use Rattle.zw_safety_narrow.specs.CountCode.{at_most}
 use Rattle.zw_safety_narrow.specs.DivisionCode.{are_unsigned, divisor_tested}
 use Rattle.zw_safety_narrow.specs.ExactCode.{exact_short, kept_quotient, no_rest, exact_long, exact_quotient_code, left_exact_code, none_dropped_code, right_exact_code}
 use Rattle.zw_safety_narrow.specs.NarrowCode.{exact_code_or}
-use Rattle.zw_safety_narrow.specs.Operators.{IsRight}
+use Rattle.zw_safety_narrow.specs.Operators.{IsRightOfTwo}
+use Rattle.zw_safety_narrow.specs.declared.setting.Setting.{Setting}
 use Rattle.zw_safety_narrow.specs.SaturatingCode.{saturated_code, natural_code, bounded_amount, saturated_left_code}
 use Rattle.zw_safety_narrow.specs.ShiftCode.{amount_tested, right_operator}
 use Rattle.zw_wasm.proofs.Closing.{closed-then}
@@ -40,12 +45,12 @@ use Rattle.zw_wasm.specs.WellFormed.{IsClosed}
 
 -- ---- exact shifts
 
-pub shl_exact-right : (left right to : IntTy) (s : ℕ) → AreNarrow left right to → IsRight SHL_EXACT left right to s (left_exact_code left right to s)
-shl_exact-right left right to s h = record {
-  ends = λ m v c a b os rest il ir scratch state. left_exact-ends m v c s left right to a b os rest h.left_narrow h.right_narrow h.to_narrow il ir (scratch refl) state;
-  typed = λ x ts scratch state. narrow-takes x (left_exact_code left right to s) ts left right to h
-      (takes-then (takes-amount x (width to) right s (I32 ∷ ts) (scratch refl) state) (takes-exact_or x 10 Shl left right to s ts (scratch refl) state));
-  closed = closed-then (amount_tested (width to) right s) (exact_code_or 10 Shl left right to s) (closed-amount (width to) right s) (exact_or-closed 10 Shl left right to s);
+pub shl_exact-right : (t : Setting) → AreNarrow t.left t.right t.to → IsRightOfTwo (family.Shift shift_op.ShlExact) t (left_exact_code t.left t.right t.to t.scratch)
+shl_exact-right t h = record {
+  ends = λ m v c a b os rest il ir scratch state. left_exact-ends m v c t.scratch t.left t.right t.to a b os rest h.left_narrow h.right_narrow h.to_narrow il ir (scratch refl) state;
+  typed = λ x ts scratch state. narrow-takes x (left_exact_code t.left t.right t.to t.scratch) ts t.left t.right t.to h
+      (takes-then (takes-amount x (width t.to) t.right t.scratch (I32 ∷ ts) (scratch refl) state) (takes-exact_or x 10 Shl t.left t.right t.to t.scratch ts (scratch refl) state));
+  closed = closed-then (amount_tested (width t.to) t.right t.scratch) (exact_code_or 10 Shl t.left t.right t.to t.scratch) (closed-amount (width t.to) t.right t.scratch) (exact_or-closed 10 Shl t.left t.right t.to t.scratch);
 }
 
 takes-none_dropped : (x : Context) (o : BinaryOperator) (s : ℕ) (ts : List ValType) → ScratchIsTyped s x.locals → PanicStateIsTyped x.module_ → Takes x (none_dropped_code o s) (I32 ∷ I32 ∷ ts) ts
@@ -58,16 +63,16 @@ takes-none_dropped x o s ts h state =
     (takes-then (takes-local_get x (s + 1) I32 (I32 ∷ ts) left)
     (takes-then (takes-compare x Ne ts) (takes-if_panics x 10 ts state)))))
 
-pub shr_exact-right : (left right to : IntTy) (s : ℕ) → AreNarrow left right to → IsRight SHR_EXACT left right to s (right_exact_code left right to s)
-shr_exact-right left right to s h =
-    let o = right_operator left in
+pub shr_exact-right : (t : Setting) → AreNarrow t.left t.right t.to → IsRightOfTwo (family.Shift shift_op.ShrExact) t (right_exact_code t.left t.right t.to t.scratch)
+shr_exact-right t h =
+    let o = right_operator t.left in
     record {
-      ends = λ m v c a b os rest il ir scratch state. right_exact-ends m v c s left right to a b os rest h.left_narrow h.right_narrow h.to_narrow il ir (scratch refl) state;
-      typed = λ x ts scratch state. narrow-takes x (right_exact_code left right to s) ts left right to h
-          (takes-then (takes-amount x (width to) right s (I32 ∷ ts) (scratch refl) state)
-          (takes-then (takes-doubled x s ts (scratch refl))
-          (takes-then (takes-none_dropped x o s (I32 ∷ I32 ∷ ts) (scratch refl) state) (takes-word x o ts))));
-      closed = closed-then (amount_tested (width to) right s) (doubled s ++ (none_dropped_code o s ++ (Binary I32 o ∷ []))) (closed-amount (width to) right s) (record { by = λ open_ifs rest h. h });
+      ends = λ m v c a b os rest il ir scratch state. right_exact-ends m v c t.scratch t.left t.right t.to a b os rest h.left_narrow h.right_narrow h.to_narrow il ir (scratch refl) state;
+      typed = λ x ts scratch state. narrow-takes x (right_exact_code t.left t.right t.to t.scratch) ts t.left t.right t.to h
+          (takes-then (takes-amount x (width t.to) t.right t.scratch (I32 ∷ ts) (scratch refl) state)
+          (takes-then (takes-doubled x t.scratch ts (scratch refl))
+          (takes-then (takes-none_dropped x o t.scratch (I32 ∷ I32 ∷ ts) (scratch refl) state) (takes-word x o ts))));
+      closed = closed-then (amount_tested (width t.to) t.right t.scratch) (doubled t.scratch ++ (none_dropped_code o t.scratch ++ (Binary I32 o ∷ []))) (closed-amount (width t.to) t.right t.scratch) (record { by = λ open_ifs rest h. h });
     }
 
 -- ---- exact quotients
@@ -106,14 +111,14 @@ closed-quotient_for false left right (Sized true count) s = record { by = λ ope
 closed-quotient_for false left right (Sized false count) s = record { by = λ open_ifs rest h. h }
 closed-quotient_for false left right Comptime s = record { by = λ open_ifs rest h. h }
 
-pub div_exact-right : (left right to : IntTy) (s : ℕ) → AreNarrow left right to → IsRight DIV_EXACT left right to s (exact_quotient_code left right to s)
-div_exact-right left right to s h =
-    let u = are_unsigned left right && holds to left in
+pub div_exact-right : (t : Setting) → AreNarrow t.left t.right t.to → IsRightOfTwo (family.Division division_op.DivExact) t (exact_quotient_code t.left t.right t.to t.scratch)
+div_exact-right t h =
+    let u = are_unsigned t.left t.right && holds t.to t.left in
     record {
-      ends = λ m v c a b os rest il ir scratch state. exact_quotient-ends m v c s left right to a b os rest h.left_narrow h.right_narrow h.to_narrow il ir (scratch refl) state;
-      typed = λ x ts scratch state. narrow-takes x (exact_quotient_code left right to s) ts left right to h
-          (takes-then (takes-divisor x s (I32 ∷ ts) (scratch refl) state) (takes-quotient_for u x left right to s ts (scratch refl) state));
-      closed = closed-then (divisor_tested s) (if u then exact_short s else exact_long left right to s) (closed-divisor s) (closed-quotient_for u left right to s);
+      ends = λ m v c a b os rest il ir scratch state. exact_quotient-ends m v c t.scratch t.left t.right t.to a b os rest h.left_narrow h.right_narrow h.to_narrow il ir (scratch refl) state;
+      typed = λ x ts scratch state. narrow-takes x (exact_quotient_code t.left t.right t.to t.scratch) ts t.left t.right t.to h
+          (takes-then (takes-divisor x t.scratch (I32 ∷ ts) (scratch refl) state) (takes-quotient_for u x t.left t.right t.to t.scratch ts (scratch refl) state));
+      closed = closed-then (divisor_tested t.scratch) (if u then exact_short t.scratch else exact_long t.left t.right t.to t.scratch) (closed-divisor t.scratch) (closed-quotient_for u t.left t.right t.to t.scratch);
     }
 
 -- ---- the shift that stops at the bounds
@@ -126,13 +131,15 @@ closed-shift_for : (u : Bool) (left right to : IntTy) (s : ℕ) → IsClosed (if
 closed-shift_for true left right to s = record { by = λ open_ifs rest h. h }
 closed-shift_for false left right to s = record { by = λ open_ifs rest h. h }
 
-pub shl_sat-right : (left right to : IntTy) (s : ℕ) → AreNarrow left right to → is_unsigned right ≡ true → IsRight SHL_SAT left right to s (saturated_left_code left right to s)
-shl_sat-right left right to s h u =
-    let t = nat_lt (width right) 6 in
-    let is = if is_unsigned left then natural_code Shl left right to s else saturated_code Shl left right to s in
+pub shl_sat-right : (t : Setting) → AreNarrow t.left t.right t.to → is_unsigned t.right ≡ true → IsRightOfTwo (family.Shift shift_op.ShlSat) t (saturated_left_code t.left t.right t.to t.scratch)
+shl_sat-right t h u =
+    let few = nat_lt (width t.right) 6 in
+    let is = if is_unsigned t.left then natural_code Shl t.left t.right t.to t.scratch else saturated_code Shl t.left t.right t.to t.scratch in
     record {
-      ends = λ m v c a b os rest il ir scratch state. shift_sat-ends m v c s left right to a b os rest h.left_narrow h.right_narrow h.to_narrow u il ir (scratch refl);
-      typed = λ x ts scratch state. narrow-takes x (saturated_left_code left right to s) ts left right to h
-          (takes-then (takes-unless t x (at_most 32 s) (I32 ∷ ts) (takes-at_most x 32 s (I32 ∷ ts) (scratch refl))) (takes-shift_for (is_unsigned left) x left right to s ts (scratch refl)));
-      closed = closed-then (bounded_amount right s) is (closed-unless t (at_most 32 s) (record { by = λ open_ifs rest h. h })) (closed-shift_for (is_unsigned left) left right to s);
+      ends = λ m v c a b os rest il ir scratch state.
+          subst (λ r. EndsOn m v c t.scratch t.left t.right t.to a b os (saturated_left_code t.left t.right t.to t.scratch) rest r) (sym (sized_saturates t.to (a *ℤ power b) (narrow_sized t.to h.to_narrow)))
+          (shift_sat-ends m v c t.scratch t.left t.right t.to a b os rest h.left_narrow h.right_narrow h.to_narrow u il ir (scratch refl));
+      typed = λ x ts scratch state. narrow-takes x (saturated_left_code t.left t.right t.to t.scratch) ts t.left t.right t.to h
+          (takes-then (takes-unless few x (at_most 32 t.scratch) (I32 ∷ ts) (takes-at_most x 32 t.scratch (I32 ∷ ts) (scratch refl))) (takes-shift_for (is_unsigned t.left) x t.left t.right t.to t.scratch ts (scratch refl)));
+      closed = closed-then (bounded_amount t.right t.scratch) is (closed-unless few (at_most 32 t.scratch) (record { by = λ open_ifs rest h. h })) (closed-shift_for (is_unsigned t.left) t.left t.right t.to t.scratch);
     }

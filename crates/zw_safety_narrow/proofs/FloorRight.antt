@@ -3,7 +3,8 @@ use Rattle.std.proofs.Common.{◌≡◌, ℕ, ◌+◌, Bool, true, false, List, 
 use Rattle.std.specs.Prelude.{◌&&◌, slice_get, if◌then◌else◌}
 use Rattle.zw_num.specs.declared.int_ty.IntTy.{IntTy}
 use Rattle.zw_num.specs.declared.int_ty.IntTy.TheVariants.{Sized, Comptime}
-use Rattle.zw_num.specs.declared.op.TheConstants.{MOD, DIV_FLOOR}
+use Rattle.zw_num.specs.declared.operator.Operator.TheVariants as family
+use Rattle.zw_num.specs.declared.operator.Division.TheVariants as division_op
 use Rattle.zw_safety_narrow.proofs.FloorRuns.{modulo-ends, floor-ends}
 use Rattle.zw_safety_narrow.proofs.NarrowTypes.{long_local, takes-extension, takes-extended, takes-long, takes-in_range, takes-wrap, takes-word}
 use Rattle.zw_safety_narrow.proofs.OperatorsRight.{AreNarrow, narrow-takes}
@@ -14,7 +15,8 @@ use Rattle.zw_safety_narrow.specs.Checked.{ScratchIsTyped, PanicStateIsTyped}
 use Rattle.zw_safety_narrow.specs.DivisionCode.{divisor_tested, are_unsigned}
 use Rattle.zw_safety_narrow.specs.FloorCode.{floored_rest, modulo_code, both_kept, whole_quotient, floor_long, floor_code}
 use Rattle.zw_safety_narrow.specs.NarrowCode.{extended}
-use Rattle.zw_safety_narrow.specs.Operators.{IsRight}
+use Rattle.zw_safety_narrow.specs.Operators.{IsRightOfTwo}
+use Rattle.zw_safety_narrow.specs.declared.setting.Setting.{Setting}
 use Rattle.zw_wasm.proofs.Closing.{closed-then}
 use Rattle.zw_wasm.proofs.TypingTakes.{takes-then, takes-local_get, takes-local_set}
 use Rattle.zw_wasm.specs.declared.module.BinaryOperator.TheVariants.{Add, Sub, DivS, DivU, RemS}
@@ -37,11 +39,11 @@ takes-modulo : (x : Context) (left right : IntTy) (s : ℕ) (ts : List ValType) 
 takes-modulo x left right s ts h state =
     takes-then (takes-divisor x s (I32 ∷ ts) h state) (takes-then (takes-extended x left right s ts h) (takes-then (takes-floored x s ts h) (takes-wrap x ts)))
 
-pub mod-right : (left right to : IntTy) (s : ℕ) → AreNarrow left right to → IsRight MOD left right to s (modulo_code left right s)
-mod-right left right to s h = record {
-  ends = λ m v c a b os rest il ir scratch state. modulo-ends m v c s left right to a b os rest h.left_narrow h.right_narrow h.to_narrow il ir (scratch refl) state;
-  typed = λ x ts scratch state. narrow-takes x (modulo_code left right s) ts left right to h (takes-modulo x left right s ts (scratch refl) state);
-  closed = closed-then (divisor_tested s) (extended left right s ++ (floored_rest (s + 4) ++ Convert Wrap ∷ [])) (closed-divisor s) (record { by = λ open_ifs rest h. h });
+pub mod-right : (t : Setting) → AreNarrow t.left t.right t.to → IsRightOfTwo (family.Division division_op.Mod) t (modulo_code t.left t.right t.scratch)
+mod-right t h = record {
+  ends = λ m v c a b os rest il ir scratch state. modulo-ends m v c t.scratch t.left t.right t.to a b os rest h.left_narrow h.right_narrow h.to_narrow il ir (scratch refl) state;
+  typed = λ x ts scratch state. narrow-takes x (modulo_code t.left t.right t.scratch) ts t.left t.right t.to h (takes-modulo x t.left t.right t.scratch ts (scratch refl) state);
+  closed = closed-then (divisor_tested t.scratch) (extended t.left t.right t.scratch ++ (floored_rest (t.scratch + 4) ++ Convert Wrap ∷ [])) (closed-divisor t.scratch) (record { by = λ open_ifs rest h. h });
 }
 
 -- ---- the quotient
@@ -84,12 +86,12 @@ closed-floor_for false left right (Sized true count) s = record { by = λ open_i
 closed-floor_for false left right (Sized false count) s = record { by = λ open_ifs rest h. h }
 closed-floor_for false left right Comptime s = record { by = λ open_ifs rest h. h }
 
-pub div_floor-right : (left right to : IntTy) (s : ℕ) → AreNarrow left right to → IsRight DIV_FLOOR left right to s (floor_code left right to s)
-div_floor-right left right to s h =
-    let u = are_unsigned left right && holds to left in
+pub div_floor-right : (t : Setting) → AreNarrow t.left t.right t.to → IsRightOfTwo (family.Division division_op.DivFloor) t (floor_code t.left t.right t.to t.scratch)
+div_floor-right t h =
+    let u = are_unsigned t.left t.right && holds t.to t.left in
     record {
-      ends = λ m v c a b os rest il ir scratch state. floor-ends m v c s left right to a b os rest h.left_narrow h.right_narrow h.to_narrow il ir (scratch refl) state;
-      typed = λ x ts scratch state. narrow-takes x (floor_code left right to s) ts left right to h
-          (takes-then (takes-divisor x s (I32 ∷ ts) (scratch refl) state) (takes-floor_for u x left right to s ts (scratch refl) state));
-      closed = closed-then (divisor_tested s) (if u then Binary I32 DivU ∷ [] else floor_long left right to s) (closed-divisor s) (closed-floor_for u left right to s);
+      ends = λ m v c a b os rest il ir scratch state. floor-ends m v c t.scratch t.left t.right t.to a b os rest h.left_narrow h.right_narrow h.to_narrow il ir (scratch refl) state;
+      typed = λ x ts scratch state. narrow-takes x (floor_code t.left t.right t.to t.scratch) ts t.left t.right t.to h
+          (takes-then (takes-divisor x t.scratch (I32 ∷ ts) (scratch refl) state) (takes-floor_for u x t.left t.right t.to t.scratch ts (scratch refl) state));
+      closed = closed-then (divisor_tested t.scratch) (if u then Binary I32 DivU ∷ [] else floor_long t.left t.right t.to t.scratch) (closed-divisor t.scratch) (closed-floor_for u t.left t.right t.to t.scratch);
     }

@@ -7,6 +7,7 @@ pub mod Pieces
 pub mod NarrowTypes
 pub mod NarrowRuns
 pub mod WordRuns
+pub mod SizedTypes
 pub mod OperatorsRight
 pub mod Going
 pub mod Orders
@@ -30,5 +31,4 @@ pub mod ExactRight
 pub mod DigitSwaps
 pub mod ReversalRuns
 pub mod ReversalRight
-pub mod ServedRight
 pub mod FamiliesRight

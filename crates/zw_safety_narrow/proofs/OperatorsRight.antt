@@ -3,15 +3,18 @@ use Rattle.std.proofs.Common.{◌≡◌, ℕ, ℤ, ◌+ℤ◌, ◌-ℤ◌, ◌*�
 use Rattle.std.specs.Prelude.{if◌then◌else◌}
 use Rattle.zw_num.specs.Arithmetic.{IsIn, exact}
 use Rattle.zw_num.specs.declared.int_ty.IntTy.{IntTy}
-use Rattle.zw_num.specs.declared.op.TheConstants.{ADD, SUB, MUL, ADD_WRAP, SUB_WRAP, MUL_WRAP}
-use Rattle.zw_safety_narrow.proofs.CheckedTypes.{add-checked, sub-checked}
+use Rattle.zw_num.specs.declared.operator.Operator.TheVariants as family
+use Rattle.zw_num.specs.declared.operator.Arithmetic.TheVariants as arithmetic_op
+use Rattle.zw_safety_narrow.proofs.CheckedTypes.{takes-add, takes-sub}
 use Rattle.zw_safety_narrow.proofs.NarrowRuns.{EndsOn, addition, subtraction, multiplication, exact-ends, wrapped-ends}
 use Rattle.zw_safety_narrow.proofs.NarrowTypes.{type-narrow, takes-exact, takes-wrapped, exact-closed, wrapped-closed}
 use Rattle.zw_safety_narrow.proofs.WordRuns.{word_sum-ends, word_difference-ends, on_u32}
+use Rattle.zw_safety_narrow.proofs.SizedTypes.{sized_wraps, narrow_sized}
 use Rattle.zw_safety_narrow.specs.Checked.{HasPanicState, HasScratch, PanicStateIsTyped, ScratchIsTyped}
 use Rattle.zw_safety_narrow.specs.Code.{add_code, sub_code}
 use Rattle.zw_safety_narrow.specs.NarrowCode.{are_u32, exact_code, sum_code, difference_code, wrapped_code}
-use Rattle.zw_safety_narrow.specs.Operators.{IsNarrow, IsRight, type_of}
+use Rattle.zw_safety_narrow.specs.Operators.{IsNarrow, IsRightOfTwo, type_of}
+use Rattle.zw_safety_narrow.specs.declared.setting.Setting.{Setting}
 use Rattle.zw_wasm.specs.declared.module.BinaryOperator.{BinaryOperator}
 use Rattle.zw_wasm.specs.declared.module.BinaryOperator.TheVariants.{Add, Sub, Mul}
 use Rattle.zw_wasm.specs.declared.module.Instr.{Instr}
@@ -52,40 +55,40 @@ difference-ends_for false m v c s left right to a b os rest h e il ir scratch st
     exact-ends m v c Sub (λ a b. a -ℤ b) s left right to a b os rest subtraction h.left_narrow h.right_narrow h.to_narrow il ir scratch state
 
 sum-takes_for : (t : Bool) (x : Context) (s : ℕ) (left right to : IntTy) (ts : List ValType) → ScratchIsTyped s x.locals → PanicStateIsTyped x.module_ → Takes x (if t then add_code s else exact_code Add left right to s) (I32 ∷ I32 ∷ ts) (I32 ∷ ts)
-sum-takes_for true x s left right to ts scratch state = (add-checked s).typed x ts (λ e. scratch) state
+sum-takes_for true x s left right to ts scratch state = takes-add x s ts scratch state
 sum-takes_for false x s left right to ts scratch state = takes-exact x Add left right to s ts scratch state
 
 difference-takes_for : (t : Bool) (x : Context) (s : ℕ) (left right to : IntTy) (ts : List ValType) → ScratchIsTyped s x.locals → PanicStateIsTyped x.module_ → Takes x (if t then sub_code s else exact_code Sub left right to s) (I32 ∷ I32 ∷ ts) (I32 ∷ ts)
-difference-takes_for true x s left right to ts scratch state = (sub-checked s).typed x ts (λ e. scratch) state
+difference-takes_for true x s left right to ts scratch state = takes-sub x s ts scratch state
 difference-takes_for false x s left right to ts scratch state = takes-exact x Sub left right to s ts scratch state
 
 sum-closed_for : (t : Bool) (s : ℕ) (left right to : IntTy) → IsClosed (if t then add_code s else exact_code Add left right to s)
-sum-closed_for true s left right to = (add-checked s).closed
+sum-closed_for true s left right to = record { by = λ open_ifs rest h. h }
 sum-closed_for false s left right to = exact-closed Add left right to s
 
 difference-closed_for : (t : Bool) (s : ℕ) (left right to : IntTy) → IsClosed (if t then sub_code s else exact_code Sub left right to s)
-difference-closed_for true s left right to = (sub-checked s).closed
+difference-closed_for true s left right to = record { by = λ open_ifs rest h. h }
 difference-closed_for false s left right to = exact-closed Sub left right to s
 
-pub sum-right : (left right to : IntTy) (s : ℕ) → AreNarrow left right to → IsRight ADD left right to s (sum_code left right to s)
-sum-right left right to s h = record {
-  ends = λ m v c a b os rest il ir scratch state. sum-ends_for (are_u32 left right to) m v c s left right to a b os rest h refl il ir (scratch refl) state;
-  typed = λ x ts scratch state. narrow-takes x (sum_code left right to s) ts left right to h (sum-takes_for (are_u32 left right to) x s left right to ts (scratch refl) state);
-  closed = sum-closed_for (are_u32 left right to) s left right to;
+pub sum-right : (t : Setting) → AreNarrow t.left t.right t.to → IsRightOfTwo (family.Arithmetic arithmetic_op.Add) t (sum_code t.left t.right t.to t.scratch)
+sum-right t h = record {
+  ends = λ m v c a b os rest il ir scratch state. sum-ends_for (are_u32 t.left t.right t.to) m v c t.scratch t.left t.right t.to a b os rest h refl il ir (scratch refl) state;
+  typed = λ x ts scratch state. narrow-takes x (sum_code t.left t.right t.to t.scratch) ts t.left t.right t.to h (sum-takes_for (are_u32 t.left t.right t.to) x t.scratch t.left t.right t.to ts (scratch refl) state);
+  closed = sum-closed_for (are_u32 t.left t.right t.to) t.scratch t.left t.right t.to;
 }
 
-pub difference-right : (left right to : IntTy) (s : ℕ) → AreNarrow left right to → IsRight SUB left right to s (difference_code left right to s)
-difference-right left right to s h = record {
-  ends = λ m v c a b os rest il ir scratch state. difference-ends_for (are_u32 left right to) m v c s left right to a b os rest h refl il ir (scratch refl) state;
-  typed = λ x ts scratch state. narrow-takes x (difference_code left right to s) ts left right to h (difference-takes_for (are_u32 left right to) x s left right to ts (scratch refl) state);
-  closed = difference-closed_for (are_u32 left right to) s left right to;
+pub difference-right : (t : Setting) → AreNarrow t.left t.right t.to → IsRightOfTwo (family.Arithmetic arithmetic_op.Sub) t (difference_code t.left t.right t.to t.scratch)
+difference-right t h = record {
+  ends = λ m v c a b os rest il ir scratch state. difference-ends_for (are_u32 t.left t.right t.to) m v c t.scratch t.left t.right t.to a b os rest h refl il ir (scratch refl) state;
+  typed = λ x ts scratch state. narrow-takes x (difference_code t.left t.right t.to t.scratch) ts t.left t.right t.to h (difference-takes_for (are_u32 t.left t.right t.to) x t.scratch t.left t.right t.to ts (scratch refl) state);
+  closed = difference-closed_for (are_u32 t.left t.right t.to) t.scratch t.left t.right t.to;
 }
 
-pub product-right : (left right to : IntTy) (s : ℕ) → AreNarrow left right to → IsRight MUL left right to s (exact_code Mul left right to s)
-product-right left right to s h = record {
-  ends = λ m v c a b os rest il ir scratch state. exact-ends m v c Mul (λ a b. a *ℤ b) s left right to a b os rest multiplication h.left_narrow h.right_narrow h.to_narrow il ir (scratch refl) state;
-  typed = λ x ts scratch state. narrow-takes x (exact_code Mul left right to s) ts left right to h (takes-exact x Mul left right to s ts (scratch refl) state);
-  closed = exact-closed Mul left right to s;
+pub product-right : (t : Setting) → AreNarrow t.left t.right t.to → IsRightOfTwo (family.Arithmetic arithmetic_op.Mul) t (exact_code Mul t.left t.right t.to t.scratch)
+product-right t h = record {
+  ends = λ m v c a b os rest il ir scratch state. exact-ends m v c Mul (λ a b. a *ℤ b) t.scratch t.left t.right t.to a b os rest multiplication h.left_narrow h.right_narrow h.to_narrow il ir (scratch refl) state;
+  typed = λ x ts scratch state. narrow-takes x (exact_code Mul t.left t.right t.to t.scratch) ts t.left t.right t.to h (takes-exact x Mul t.left t.right t.to t.scratch ts (scratch refl) state);
+  closed = exact-closed Mul t.left t.right t.to t.scratch;
 }
 
 -- ---- `+%`, `-%` and `*%`
@@ -93,23 +96,29 @@ product-right left right to s h = record {
 wrapped-typed : (x : Context) (ts : List ValType) (o : BinaryOperator) (left right to : IntTy) → AreNarrow left right to → Takes x (wrapped_code o to) (type_of right ∷ type_of left ∷ ts) (type_of to ∷ ts)
 wrapped-typed x ts o left right to h = narrow-takes x (wrapped_code o to) ts left right to h (takes-wrapped x o to ts)
 
-pub sum_wrap-right : (left right to : IntTy) (s : ℕ) → AreNarrow left right to → IsRight ADD_WRAP left right to s (wrapped_code Add to)
-sum_wrap-right left right to s h = record {
-  ends = λ m v c a b os rest il ir scratch state. wrapped-ends m v c Add (λ a b. a +ℤ b) s left right to a b os rest addition h.left_narrow h.right_narrow h.to_narrow;
-  typed = λ x ts scratch state. wrapped-typed x ts Add left right to h;
-  closed = wrapped-closed Add to;
+pub sum_wrap-right : (t : Setting) → AreNarrow t.left t.right t.to → IsRightOfTwo (family.Arithmetic arithmetic_op.AddWrap) t (wrapped_code Add t.to)
+sum_wrap-right t h = record {
+  ends = λ m v c a b os rest il ir scratch state.
+      subst (λ r. EndsOn m v c t.scratch t.left t.right t.to a b os (wrapped_code Add t.to) rest r) (sym (sized_wraps t.to (a +ℤ b) (narrow_sized t.to h.to_narrow)))
+      (wrapped-ends m v c Add (λ a b. a +ℤ b) t.scratch t.left t.right t.to a b os rest addition h.left_narrow h.right_narrow h.to_narrow);
+  typed = λ x ts scratch state. wrapped-typed x ts Add t.left t.right t.to h;
+  closed = wrapped-closed Add t.to;
 }
 
-pub difference_wrap-right : (left right to : IntTy) (s : ℕ) → AreNarrow left right to → IsRight SUB_WRAP left right to s (wrapped_code Sub to)
-difference_wrap-right left right to s h = record {
-  ends = λ m v c a b os rest il ir scratch state. wrapped-ends m v c Sub (λ a b. a -ℤ b) s left right to a b os rest subtraction h.left_narrow h.right_narrow h.to_narrow;
-  typed = λ x ts scratch state. wrapped-typed x ts Sub left right to h;
-  closed = wrapped-closed Sub to;
+pub difference_wrap-right : (t : Setting) → AreNarrow t.left t.right t.to → IsRightOfTwo (family.Arithmetic arithmetic_op.SubWrap) t (wrapped_code Sub t.to)
+difference_wrap-right t h = record {
+  ends = λ m v c a b os rest il ir scratch state.
+      subst (λ r. EndsOn m v c t.scratch t.left t.right t.to a b os (wrapped_code Sub t.to) rest r) (sym (sized_wraps t.to (a -ℤ b) (narrow_sized t.to h.to_narrow)))
+      (wrapped-ends m v c Sub (λ a b. a -ℤ b) t.scratch t.left t.right t.to a b os rest subtraction h.left_narrow h.right_narrow h.to_narrow);
+  typed = λ x ts scratch state. wrapped-typed x ts Sub t.left t.right t.to h;
+  closed = wrapped-closed Sub t.to;
 }
 
-pub product_wrap-right : (left right to : IntTy) (s : ℕ) → AreNarrow left right to → IsRight MUL_WRAP left right to s (wrapped_code Mul to)
-product_wrap-right left right to s h = record {
-  ends = λ m v c a b os rest il ir scratch state. wrapped-ends m v c Mul (λ a b. a *ℤ b) s left right to a b os rest multiplication h.left_narrow h.right_narrow h.to_narrow;
-  typed = λ x ts scratch state. wrapped-typed x ts Mul left right to h;
-  closed = wrapped-closed Mul to;
+pub product_wrap-right : (t : Setting) → AreNarrow t.left t.right t.to → IsRightOfTwo (family.Arithmetic arithmetic_op.MulWrap) t (wrapped_code Mul t.to)
+product_wrap-right t h = record {
+  ends = λ m v c a b os rest il ir scratch state.
+      subst (λ r. EndsOn m v c t.scratch t.left t.right t.to a b os (wrapped_code Mul t.to) rest r) (sym (sized_wraps t.to (a *ℤ b) (narrow_sized t.to h.to_narrow)))
+      (wrapped-ends m v c Mul (λ a b. a *ℤ b) t.scratch t.left t.right t.to a b os rest multiplication h.left_narrow h.right_narrow h.to_narrow);
+  typed = λ x ts scratch state. wrapped-typed x ts Mul t.left t.right t.to h;
+  closed = wrapped-closed Mul t.to;
 }

@@ -5,7 +5,10 @@ use Rattle.std.specs.Int.{int_min, int_max}
 use Rattle.std.specs.Ordering.{int_eq}
 use Rattle.zw_num.specs.Arithmetic.{bits_and, bits_or, bits_xor}
 use Rattle.zw_num.specs.declared.int_ty.IntTy.{IntTy}
-use Rattle.zw_num.specs.declared.op.TheConstants.{BIT_AND, BIT_OR, BIT_XOR, EQUAL, NOT_EQUAL, LESS, LESS_OR_EQUAL, GREATER, GREATER_OR_EQUAL, MIN, MAX}
+use Rattle.zw_num.specs.declared.operator.Operator.TheVariants as family
+use Rattle.zw_num.specs.declared.operator.Bitwise.TheVariants as bitwise_op
+use Rattle.zw_num.specs.declared.operator.Comparison.TheVariants as comparison_op
+use Rattle.zw_num.specs.declared.operator.Extreme.TheVariants as extreme_op
 use Rattle.zw_safety_narrow.proofs.BitRuns.{and_pattern, or_pattern, xor_pattern, word-ends}
 use Rattle.zw_safety_narrow.proofs.CheckedTypes.{first_local, second_local}
 use Rattle.zw_safety_narrow.proofs.NarrowTypes.{takes-extended, takes-compare_long, takes-word}
@@ -15,8 +18,9 @@ use Rattle.zw_safety_narrow.proofs.Orders.{equal, not_equal, less, less_or_equal
 use Rattle.zw_safety_narrow.specs.Checked.{ScratchIsTyped}
 use Rattle.zw_safety_narrow.specs.CompareCode.{fits_signed, is_unsigned, comparison_code, doubled, choice_code}
 use Rattle.zw_safety_narrow.specs.NarrowCode.{extended}
-use Rattle.zw_safety_narrow.specs.OperatorCode.{word_code}
-use Rattle.zw_safety_narrow.specs.Operators.{IsRight}
+use Rattle.zw_safety_narrow.specs.WordCode.{word_code}
+use Rattle.zw_safety_narrow.specs.Operators.{IsRightOfTwo}
+use Rattle.zw_safety_narrow.specs.declared.setting.Setting.{Setting}
 use Rattle.zw_wasm.proofs.Closing.{closed-then}
 use Rattle.zw_wasm.proofs.TypingTakes.{takes-then, takes-instr, takes-local_get, takes-local_set}
 use Rattle.zw_wasm.specs.declared.module.BinaryOperator.TheVariants.{And, Or, Xor}
@@ -82,83 +86,83 @@ closed-choice signed unsigned left right s =
 
 -- ---- comparisons
 
-pub equal-right : (left right to : IntTy) (s : ℕ) → AreNarrow left right to → IsRight EQUAL left right to s (comparison_code Eq Eq left right s)
-equal-right left right to s h = record {
-  ends = λ m v c a b os rest il ir scratch state. comparison-ends m v c Eq Eq (λ a b. int_eq a b) s left right to a b os rest equal h.left_narrow h.right_narrow h.to_narrow il ir (scratch refl);
-  typed = λ x ts scratch state. narrow-takes x (comparison_code Eq Eq left right s) ts left right to h (takes-comparison x Eq Eq left right s ts (scratch refl));
-  closed = closed-comparison Eq Eq left right s;
+pub equal-right : (t : Setting) → AreNarrow t.left t.right t.to → IsRightOfTwo (family.Comparison comparison_op.Equal) t (comparison_code Eq Eq t.left t.right t.scratch)
+equal-right t h = record {
+  ends = λ m v c a b os rest il ir scratch state. comparison-ends m v c Eq Eq (λ a b. int_eq a b) t.scratch t.left t.right t.to a b os rest equal h.left_narrow h.right_narrow h.to_narrow il ir (scratch refl);
+  typed = λ x ts scratch state. narrow-takes x (comparison_code Eq Eq t.left t.right t.scratch) ts t.left t.right t.to h (takes-comparison x Eq Eq t.left t.right t.scratch ts (scratch refl));
+  closed = closed-comparison Eq Eq t.left t.right t.scratch;
 }
 
-pub not_equal-right : (left right to : IntTy) (s : ℕ) → AreNarrow left right to → IsRight NOT_EQUAL left right to s (comparison_code Ne Ne left right s)
-not_equal-right left right to s h = record {
-  ends = λ m v c a b os rest il ir scratch state. comparison-ends m v c Ne Ne (λ a b. not (int_eq a b)) s left right to a b os rest not_equal h.left_narrow h.right_narrow h.to_narrow il ir (scratch refl);
-  typed = λ x ts scratch state. narrow-takes x (comparison_code Ne Ne left right s) ts left right to h (takes-comparison x Ne Ne left right s ts (scratch refl));
-  closed = closed-comparison Ne Ne left right s;
+pub not_equal-right : (t : Setting) → AreNarrow t.left t.right t.to → IsRightOfTwo (family.Comparison comparison_op.NotEqual) t (comparison_code Ne Ne t.left t.right t.scratch)
+not_equal-right t h = record {
+  ends = λ m v c a b os rest il ir scratch state. comparison-ends m v c Ne Ne (λ a b. not (int_eq a b)) t.scratch t.left t.right t.to a b os rest not_equal h.left_narrow h.right_narrow h.to_narrow il ir (scratch refl);
+  typed = λ x ts scratch state. narrow-takes x (comparison_code Ne Ne t.left t.right t.scratch) ts t.left t.right t.to h (takes-comparison x Ne Ne t.left t.right t.scratch ts (scratch refl));
+  closed = closed-comparison Ne Ne t.left t.right t.scratch;
 }
 
-pub less-right : (left right to : IntTy) (s : ℕ) → AreNarrow left right to → IsRight LESS left right to s (comparison_code LtS LtU left right s)
-less-right left right to s h = record {
-  ends = λ m v c a b os rest il ir scratch state. comparison-ends m v c LtS LtU (λ a b. int_lt a b) s left right to a b os rest less h.left_narrow h.right_narrow h.to_narrow il ir (scratch refl);
-  typed = λ x ts scratch state. narrow-takes x (comparison_code LtS LtU left right s) ts left right to h (takes-comparison x LtS LtU left right s ts (scratch refl));
-  closed = closed-comparison LtS LtU left right s;
+pub less-right : (t : Setting) → AreNarrow t.left t.right t.to → IsRightOfTwo (family.Comparison comparison_op.Less) t (comparison_code LtS LtU t.left t.right t.scratch)
+less-right t h = record {
+  ends = λ m v c a b os rest il ir scratch state. comparison-ends m v c LtS LtU (λ a b. int_lt a b) t.scratch t.left t.right t.to a b os rest less h.left_narrow h.right_narrow h.to_narrow il ir (scratch refl);
+  typed = λ x ts scratch state. narrow-takes x (comparison_code LtS LtU t.left t.right t.scratch) ts t.left t.right t.to h (takes-comparison x LtS LtU t.left t.right t.scratch ts (scratch refl));
+  closed = closed-comparison LtS LtU t.left t.right t.scratch;
 }
 
-pub less_or_equal-right : (left right to : IntTy) (s : ℕ) → AreNarrow left right to → IsRight LESS_OR_EQUAL left right to s (comparison_code LeS LeU left right s)
-less_or_equal-right left right to s h = record {
-  ends = λ m v c a b os rest il ir scratch state. comparison-ends m v c LeS LeU (λ a b. int_le a b) s left right to a b os rest less_or_equal h.left_narrow h.right_narrow h.to_narrow il ir (scratch refl);
-  typed = λ x ts scratch state. narrow-takes x (comparison_code LeS LeU left right s) ts left right to h (takes-comparison x LeS LeU left right s ts (scratch refl));
-  closed = closed-comparison LeS LeU left right s;
+pub less_or_equal-right : (t : Setting) → AreNarrow t.left t.right t.to → IsRightOfTwo (family.Comparison comparison_op.LessOrEqual) t (comparison_code LeS LeU t.left t.right t.scratch)
+less_or_equal-right t h = record {
+  ends = λ m v c a b os rest il ir scratch state. comparison-ends m v c LeS LeU (λ a b. int_le a b) t.scratch t.left t.right t.to a b os rest less_or_equal h.left_narrow h.right_narrow h.to_narrow il ir (scratch refl);
+  typed = λ x ts scratch state. narrow-takes x (comparison_code LeS LeU t.left t.right t.scratch) ts t.left t.right t.to h (takes-comparison x LeS LeU t.left t.right t.scratch ts (scratch refl));
+  closed = closed-comparison LeS LeU t.left t.right t.scratch;
 }
 
-pub greater-right : (left right to : IntTy) (s : ℕ) → AreNarrow left right to → IsRight GREATER left right to s (comparison_code GtS GtU left right s)
-greater-right left right to s h = record {
-  ends = λ m v c a b os rest il ir scratch state. comparison-ends m v c GtS GtU (λ a b. int_lt b a) s left right to a b os rest greater h.left_narrow h.right_narrow h.to_narrow il ir (scratch refl);
-  typed = λ x ts scratch state. narrow-takes x (comparison_code GtS GtU left right s) ts left right to h (takes-comparison x GtS GtU left right s ts (scratch refl));
-  closed = closed-comparison GtS GtU left right s;
+pub greater-right : (t : Setting) → AreNarrow t.left t.right t.to → IsRightOfTwo (family.Comparison comparison_op.Greater) t (comparison_code GtS GtU t.left t.right t.scratch)
+greater-right t h = record {
+  ends = λ m v c a b os rest il ir scratch state. comparison-ends m v c GtS GtU (λ a b. int_lt b a) t.scratch t.left t.right t.to a b os rest greater h.left_narrow h.right_narrow h.to_narrow il ir (scratch refl);
+  typed = λ x ts scratch state. narrow-takes x (comparison_code GtS GtU t.left t.right t.scratch) ts t.left t.right t.to h (takes-comparison x GtS GtU t.left t.right t.scratch ts (scratch refl));
+  closed = closed-comparison GtS GtU t.left t.right t.scratch;
 }
 
-pub greater_or_equal-right : (left right to : IntTy) (s : ℕ) → AreNarrow left right to → IsRight GREATER_OR_EQUAL left right to s (comparison_code GeS GeU left right s)
-greater_or_equal-right left right to s h = record {
-  ends = λ m v c a b os rest il ir scratch state. comparison-ends m v c GeS GeU (λ a b. int_le b a) s left right to a b os rest greater_or_equal h.left_narrow h.right_narrow h.to_narrow il ir (scratch refl);
-  typed = λ x ts scratch state. narrow-takes x (comparison_code GeS GeU left right s) ts left right to h (takes-comparison x GeS GeU left right s ts (scratch refl));
-  closed = closed-comparison GeS GeU left right s;
+pub greater_or_equal-right : (t : Setting) → AreNarrow t.left t.right t.to → IsRightOfTwo (family.Comparison comparison_op.GreaterOrEqual) t (comparison_code GeS GeU t.left t.right t.scratch)
+greater_or_equal-right t h = record {
+  ends = λ m v c a b os rest il ir scratch state. comparison-ends m v c GeS GeU (λ a b. int_le b a) t.scratch t.left t.right t.to a b os rest greater_or_equal h.left_narrow h.right_narrow h.to_narrow il ir (scratch refl);
+  typed = λ x ts scratch state. narrow-takes x (comparison_code GeS GeU t.left t.right t.scratch) ts t.left t.right t.to h (takes-comparison x GeS GeU t.left t.right t.scratch ts (scratch refl));
+  closed = closed-comparison GeS GeU t.left t.right t.scratch;
 }
 
 -- ---- the lesser and the greater of two
 
-pub min-right : (left right to : IntTy) (s : ℕ) → AreNarrow left right to → IsRight MIN left right to s (choice_code LtS LtU left right s)
-min-right left right to s h = record {
-  ends = λ m v c a b os rest il ir scratch state. choice-ends m v c LtS LtU (λ a b. int_lt a b) s left right to a b (int_min a b) os rest less h.left_narrow h.right_narrow h.to_narrow il ir (scratch refl) (lesser a b);
-  typed = λ x ts scratch state. narrow-takes x (choice_code LtS LtU left right s) ts left right to h (takes-choice x LtS LtU left right s ts (scratch refl));
-  closed = closed-choice LtS LtU left right s;
+pub min-right : (t : Setting) → AreNarrow t.left t.right t.to → IsRightOfTwo (family.Extreme extreme_op.Min) t (choice_code LtS LtU t.left t.right t.scratch)
+min-right t h = record {
+  ends = λ m v c a b os rest il ir scratch state. choice-ends m v c LtS LtU (λ a b. int_lt a b) t.scratch t.left t.right t.to a b (int_min a b) os rest less h.left_narrow h.right_narrow h.to_narrow il ir (scratch refl) (lesser a b);
+  typed = λ x ts scratch state. narrow-takes x (choice_code LtS LtU t.left t.right t.scratch) ts t.left t.right t.to h (takes-choice x LtS LtU t.left t.right t.scratch ts (scratch refl));
+  closed = closed-choice LtS LtU t.left t.right t.scratch;
 }
 
-pub max-right : (left right to : IntTy) (s : ℕ) → AreNarrow left right to → IsRight MAX left right to s (choice_code GtS GtU left right s)
-max-right left right to s h = record {
-  ends = λ m v c a b os rest il ir scratch state. choice-ends m v c GtS GtU (λ a b. int_lt b a) s left right to a b (int_max a b) os rest greater h.left_narrow h.right_narrow h.to_narrow il ir (scratch refl) refl;
-  typed = λ x ts scratch state. narrow-takes x (choice_code GtS GtU left right s) ts left right to h (takes-choice x GtS GtU left right s ts (scratch refl));
-  closed = closed-choice GtS GtU left right s;
+pub max-right : (t : Setting) → AreNarrow t.left t.right t.to → IsRightOfTwo (family.Extreme extreme_op.Max) t (choice_code GtS GtU t.left t.right t.scratch)
+max-right t h = record {
+  ends = λ m v c a b os rest il ir scratch state. choice-ends m v c GtS GtU (λ a b. int_lt b a) t.scratch t.left t.right t.to a b (int_max a b) os rest greater h.left_narrow h.right_narrow h.to_narrow il ir (scratch refl) refl;
+  typed = λ x ts scratch state. narrow-takes x (choice_code GtS GtU t.left t.right t.scratch) ts t.left t.right t.to h (takes-choice x GtS GtU t.left t.right t.scratch ts (scratch refl));
+  closed = closed-choice GtS GtU t.left t.right t.scratch;
 }
 
 -- ---- bits
 
-pub and-right : (left right to : IntTy) (s : ℕ) → AreNarrow left right to → IsRight BIT_AND left right to s (word_code And)
-and-right left right to s h = record {
-  ends = λ m v c a b os rest il ir scratch state. word-ends m v c And s left right to a b (bits_and a b) os rest h.left_narrow h.right_narrow h.to_narrow (ap (λ n. Gives n) (and_pattern a b));
-  typed = λ x ts scratch state. narrow-takes x (word_code And) ts left right to h (takes-word x And ts);
+pub and-right : (t : Setting) → AreNarrow t.left t.right t.to → IsRightOfTwo (family.Bitwise bitwise_op.And) t (word_code And)
+and-right t h = record {
+  ends = λ m v c a b os rest il ir scratch state. word-ends m v c And t.scratch t.left t.right t.to a b (bits_and a b) os rest h.left_narrow h.right_narrow h.to_narrow (ap (λ n. Gives n) (and_pattern a b));
+  typed = λ x ts scratch state. narrow-takes x (word_code And) ts t.left t.right t.to h (takes-word x And ts);
   closed = record { by = λ open_ifs rest h. h };
 }
 
-pub or-right : (left right to : IntTy) (s : ℕ) → AreNarrow left right to → IsRight BIT_OR left right to s (word_code Or)
-or-right left right to s h = record {
-  ends = λ m v c a b os rest il ir scratch state. word-ends m v c Or s left right to a b (bits_or a b) os rest h.left_narrow h.right_narrow h.to_narrow (ap (λ n. Gives n) (or_pattern a b));
-  typed = λ x ts scratch state. narrow-takes x (word_code Or) ts left right to h (takes-word x Or ts);
+pub or-right : (t : Setting) → AreNarrow t.left t.right t.to → IsRightOfTwo (family.Bitwise bitwise_op.Or) t (word_code Or)
+or-right t h = record {
+  ends = λ m v c a b os rest il ir scratch state. word-ends m v c Or t.scratch t.left t.right t.to a b (bits_or a b) os rest h.left_narrow h.right_narrow h.to_narrow (ap (λ n. Gives n) (or_pattern a b));
+  typed = λ x ts scratch state. narrow-takes x (word_code Or) ts t.left t.right t.to h (takes-word x Or ts);
   closed = record { by = λ open_ifs rest h. h };
 }
 
-pub xor-right : (left right to : IntTy) (s : ℕ) → AreNarrow left right to → IsRight BIT_XOR left right to s (word_code Xor)
-xor-right left right to s h = record {
-  ends = λ m v c a b os rest il ir scratch state. word-ends m v c Xor s left right to a b (bits_xor a b) os rest h.left_narrow h.right_narrow h.to_narrow (ap (λ n. Gives n) (xor_pattern a b));
-  typed = λ x ts scratch state. narrow-takes x (word_code Xor) ts left right to h (takes-word x Xor ts);
+pub xor-right : (t : Setting) → AreNarrow t.left t.right t.to → IsRightOfTwo (family.Bitwise bitwise_op.Xor) t (word_code Xor)
+xor-right t h = record {
+  ends = λ m v c a b os rest il ir scratch state. word-ends m v c Xor t.scratch t.left t.right t.to a b (bits_xor a b) os rest h.left_narrow h.right_narrow h.to_narrow (ap (λ n. Gives n) (xor_pattern a b));
+  typed = λ x ts scratch state. narrow-takes x (word_code Xor) ts t.left t.right t.to h (takes-word x Xor ts);
   closed = record { by = λ open_ifs rest h. h };
 }

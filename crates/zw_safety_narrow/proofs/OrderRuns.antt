@@ -3,6 +3,7 @@ use Rattle.std.proofs.Common.{◌≡◌, ℕ, ℤ, pos, ◌+◌, ◌≤◌, Bool
 use Rattle.std.specs.Prelude.{nat_eq, slice_get, slice_set, ◌&&◌, if◌then◌else◌}
 use Rattle.std.proofs.lemmas.List.{length-set}
 use Rattle.std.specs.Int.{w32, w64}
+use Rattle.zw_num.specs.Meanings.{number_of_truth}
 use Rattle.zw_num.specs.Arithmetic.{IsIn, pattern}
 use Rattle.zw_num.specs.declared.int_ty.IntTy.{IntTy}
 use Rattle.zw_safety_narrow.proofs.Going.{Moves, moves, andthen, moves-tee, moves-select, leaves}
@@ -14,7 +15,7 @@ use Rattle.zw_safety_narrow.proofs.WordRuns.{both-true}
 use Rattle.zw_safety_narrow.specs.Checked.{HasScratch, KeepsOthers}
 use Rattle.zw_safety_narrow.specs.CompareCode.{fits_signed, is_unsigned, comparison_code, doubled, choice_code}
 use Rattle.zw_safety_narrow.specs.NarrowCode.{extended}
-use Rattle.zw_safety_narrow.specs.Operators.{IsNarrow, truth}
+use Rattle.zw_safety_narrow.specs.Operators.{IsNarrow}
 use Rattle.zw_wasm.specs.declared.module.Comparison.{Comparison}
 use Rattle.zw_wasm.specs.declared.module.Instr.{Instr}
 use Rattle.zw_wasm.specs.declared.module.Instr.TheVariants.{Select, Compare}
@@ -103,7 +104,7 @@ pub compares : (m : Module) (v : View) (c : Config) (signed unsigned : Compariso
 compares m v c signed unsigned test left right s a b os locals relation hl hr il ir scratch =
     compares_for (fits_signed left && fits_signed right) (is_unsigned left && is_unsigned right) m v c signed unsigned test left right s a b os locals relation hl hr il ir scratch refl refl
 
-truth_bits : (t : Bool) → bit_of t ≡ pattern 32 (truth t)
+truth_bits : (t : Bool) → bit_of t ≡ pattern 32 (number_of_truth t)
 truth_bits true = refl
 truth_bits false = refl
 
@@ -114,9 +115,9 @@ ends_with m v c s left right to a b z os is rest n most hl hr ht few e piece =
     (leaves m v c s to z (words a b os) os piece.after is rest most ht piece.keeps few
     (subst (λ k. Moves m v c is (having (words a b os) c.frame.locals) (having (I32 k ∷ os) piece.after) most) e piece.runs))
 
-pub comparison-ends : (m : Module) (v : View) (c : Config) (signed unsigned : Comparison) (test : ℤ → ℤ → Bool) (s : ℕ) (left right to : IntTy) (a b : ℤ) (os : List Num) (rest : List Instr) → Relation signed unsigned test → IsNarrow left → IsNarrow right → IsNarrow to → IsIn left a → IsIn right b → HasScratch s c.frame.locals → EndsOn m v c s left right to a b os (comparison_code signed unsigned left right s) rest (Ok (truth (test a b)))
+pub comparison-ends : (m : Module) (v : View) (c : Config) (signed unsigned : Comparison) (test : ℤ → ℤ → Bool) (s : ℕ) (left right to : IntTy) (a b : ℤ) (os : List Num) (rest : List Instr) → Relation signed unsigned test → IsNarrow left → IsNarrow right → IsNarrow to → IsIn left a → IsIn right b → HasScratch s c.frame.locals → EndsOn m v c s left right to a b os (comparison_code signed unsigned left right s) rest (Ok (number_of_truth (test a b)))
 comparison-ends m v c signed unsigned test s left right to a b os rest relation hl hr ht il ir scratch =
-    ends_with m v c s left right to a b (truth (test a b)) os (comparison_code signed unsigned left right s) rest (bit_of (test a b)) 8 hl hr ht (lit≤ tt) (truth_bits (test a b))
+    ends_with m v c s left right to a b (number_of_truth (test a b)) os (comparison_code signed unsigned left right s) rest (bit_of (test a b)) 8 hl hr ht (lit≤ tt) (truth_bits (test a b))
     (compares m v c signed unsigned test left right s a b os c.frame.locals relation hl hr il ir scratch)
 
 -- ---- the lesser and the greater of two

@@ -1,10 +1,11 @@
 -- The code of `@byteSwap` and `@bitReverse` is right wherever it stands.
-use Rattle.std.proofs.Common.{◌≡◌, ℕ, pos, ◌-◌, ◌%◌, Bool, true, false, List, [], ◌∷◌, ◌++◌, refl}
+use Rattle.std.proofs.Common.{◌≡◌, ℕ, pos, ◌-◌, ◌%◌, Bool, true, false, List, [], ◌∷◌, ◌++◌}
 use Rattle.std.specs.Prelude.{nat_eq, nat_lt, if◌then◌else◌}
 use Rattle.zw_num.specs.Arithmetic.{width}
 use Rattle.zw_num.specs.declared.int_ty.IntTy.{IntTy}
 use Rattle.zw_num.specs.declared.int_ty.IntTy.TheVariants.{Sized}
-use Rattle.zw_num.specs.declared.op.TheConstants.{BYTE_SWAP, BIT_REVERSE}
+use Rattle.zw_num.specs.declared.operator.Operator.TheVariants as family
+use Rattle.zw_num.specs.declared.operator.Unary.TheVariants as unary_op
 use Rattle.zw_safety_narrow.proofs.CastRight.{one-takes, takes-unless, takes-truncated, closed-nothing, closed-unless, closed-fitted}
 use Rattle.zw_safety_narrow.proofs.CheckedTypes.{first_local}
 use Rattle.zw_safety_narrow.proofs.NarrowTypes.{takes-word}
@@ -13,7 +14,8 @@ use Rattle.zw_safety_narrow.proofs.ReversalRuns.{bit_reverse-ends, byte_swap-end
 use Rattle.zw_safety_narrow.specs.CastCode.{holds, truncated_code}
 use Rattle.zw_safety_narrow.specs.Checked.{ScratchIsTyped}
 use Rattle.zw_safety_narrow.specs.NarrowCode.{fitted}
-use Rattle.zw_safety_narrow.specs.Operators.{IsNarrow, IsRightOnOne}
+use Rattle.zw_safety_narrow.specs.Operators.{IsNarrow, IsRightOfOne}
+use Rattle.zw_safety_narrow.specs.declared.setting.Setting.{Setting}
 use Rattle.zw_safety_narrow.specs.ReversalCode.{neighbours_swapped, bytes_turned, bits_turned, lowered, reversal_code, byte_swap_code, bit_reverse_code}
 use Rattle.zw_wasm.proofs.Closing.{closed-then}
 use Rattle.zw_wasm.proofs.TypingTakes.{takes-none, takes-then, takes-local_get, takes-i32_const}
@@ -66,16 +68,16 @@ closed-reversal turned from to h =
     closed-unless (nat_eq (width from) 0) (turned ++ last)
     (closed-then turned last h (closed-then (lowered from) (truncated_code (Sized false (width from)) to) (closed-lowered_for (nat_lt (width from) 32) (32 - width from)) (closed-unless (holds to (Sized false (width from))) (fitted to) (closed-fitted to))))
 
-pub byte_swap-right : (from to : IntTy) (s : ℕ) → IsNarrow from → IsNarrow to → width from % 8 ≡ 0 → IsRightOnOne BYTE_SWAP from to s (byte_swap_code from to s)
-byte_swap-right from to s hf ht whole = record {
-  ends = λ m v c a os rest i scratch state. byte_swap-ends m v c s from to a os rest hf ht whole i (scratch refl);
-  typed = λ x ts scratch state. one-takes x (byte_swap_code from to s) ts from to hf ht (takes-reversal x (bytes_turned s) from to ts (takes-bytes x s ts (scratch refl)));
-  closed = closed-reversal (bytes_turned s) from to (record { by = λ open_ifs rest h. h });
+pub byte_swap-right : (t : Setting) → IsNarrow t.left → IsNarrow t.to → width t.left % 8 ≡ 0 → IsRightOfOne (family.Unary unary_op.ByteSwap) t (byte_swap_code t.left t.to t.scratch)
+byte_swap-right t hf ht whole = record {
+  ends = λ m v c a os rest i scratch state. byte_swap-ends m v c t.scratch t.left t.to a os rest hf ht whole i scratch;
+  typed = λ x ts scratch state. one-takes x (byte_swap_code t.left t.to t.scratch) ts t.left t.to hf ht (takes-reversal x (bytes_turned t.scratch) t.left t.to ts (takes-bytes x t.scratch ts scratch));
+  closed = closed-reversal (bytes_turned t.scratch) t.left t.to (record { by = λ open_ifs rest h. h });
 }
 
-pub bit_reverse-right : (from to : IntTy) (s : ℕ) → IsNarrow from → IsNarrow to → IsRightOnOne BIT_REVERSE from to s (bit_reverse_code from to s)
-bit_reverse-right from to s hf ht = record {
-  ends = λ m v c a os rest i scratch state. bit_reverse-ends m v c s from to a os rest hf ht i (scratch refl);
-  typed = λ x ts scratch state. one-takes x (bit_reverse_code from to s) ts from to hf ht (takes-reversal x (bits_turned s) from to ts (takes-bits x s ts (scratch refl)));
-  closed = closed-reversal (bits_turned s) from to (record { by = λ open_ifs rest h. h });
+pub bit_reverse-right : (t : Setting) → IsNarrow t.left → IsNarrow t.to → IsRightOfOne (family.Unary unary_op.BitReverse) t (bit_reverse_code t.left t.to t.scratch)
+bit_reverse-right t hf ht = record {
+  ends = λ m v c a os rest i scratch state. bit_reverse-ends m v c t.scratch t.left t.to a os rest hf ht i scratch;
+  typed = λ x ts scratch state. one-takes x (bit_reverse_code t.left t.to t.scratch) ts t.left t.to hf ht (takes-reversal x (bits_turned t.scratch) t.left t.to ts (takes-bits x t.scratch ts scratch));
+  closed = closed-reversal (bits_turned t.scratch) t.left t.to (record { by = λ open_ifs rest h. h });
 }

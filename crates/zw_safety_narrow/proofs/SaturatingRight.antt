@@ -1,15 +1,19 @@
 -- The code of sums, differences and products that stop at the bounds of their type is right wherever it stands.
-use Rattle.std.proofs.Common.{◌≡◌, ℕ, ℤ, ◌+◌, Bool, true, false, List, [], ◌∷◌, ◌++◌, Some, refl, ap}
+use Rattle.std.proofs.Common.{◌≡◌, ℕ, ℤ, ◌+ℤ◌, ◌-ℤ◌, ◌*ℤ◌, ◌+◌, Bool, true, false, List, [], ◌∷◌, ◌++◌, Some, refl, sym, ap, subst}
 use Rattle.std.specs.Prelude.{map, slice_get, if◌then◌else◌}
 use Rattle.zw_num.specs.Arithmetic.{least, greatest}
 use Rattle.zw_num.specs.declared.int_ty.IntTy.{IntTy}
-use Rattle.zw_num.specs.declared.op.TheConstants.{ADD_SAT, SUB_SAT, MUL_SAT}
+use Rattle.zw_num.specs.declared.operator.Operator.TheVariants as family
+use Rattle.zw_num.specs.declared.operator.Arithmetic.TheVariants as arithmetic_op
 use Rattle.zw_safety_narrow.proofs.NarrowTypes.{long_local, takes-extended, takes-long, takes-long_const, takes-compare_long, takes-wrap}
 use Rattle.zw_safety_narrow.proofs.OperatorsRight.{AreNarrow, narrow-takes}
+use Rattle.zw_safety_narrow.proofs.NarrowRuns.{EndsOn}
 use Rattle.zw_safety_narrow.proofs.SaturatingRuns.{sum_sat-ends, difference_sat-ends, product_sat-ends}
+use Rattle.zw_safety_narrow.proofs.SizedTypes.{sized_saturates, narrow_sized}
 use Rattle.zw_safety_narrow.specs.Checked.{ScratchIsTyped}
 use Rattle.zw_safety_narrow.specs.DivisionCode.{are_unsigned}
-use Rattle.zw_safety_narrow.specs.Operators.{IsRight}
+use Rattle.zw_safety_narrow.specs.Operators.{IsRightOfTwo}
+use Rattle.zw_safety_narrow.specs.declared.setting.Setting.{Setting}
 use Rattle.zw_safety_narrow.specs.SaturatingCode.{bounded, saturated_code, natural_code, natural_product_code, saturated_product_code}
 use Rattle.zw_wasm.proofs.TypingTakes.{takes-then, takes-instr, takes-local_get}
 use Rattle.zw_wasm.specs.declared.module.BinaryOperator.{BinaryOperator}
@@ -55,23 +59,29 @@ closed-product_for : (u : Bool) (left right to : IntTy) (s : ℕ) → IsClosed (
 closed-product_for true left right to s = record { by = λ open_ifs rest h. h }
 closed-product_for false left right to s = record { by = λ open_ifs rest h. h }
 
-pub add_sat-right : (left right to : IntTy) (s : ℕ) → AreNarrow left right to → IsRight ADD_SAT left right to s (saturated_code Add left right to s)
-add_sat-right left right to s h = record {
-  ends = λ m v c a b os rest il ir scratch state. sum_sat-ends m v c s left right to a b os rest h.left_narrow h.right_narrow h.to_narrow il ir (scratch refl);
-  typed = λ x ts scratch state. narrow-takes x (saturated_code Add left right to s) ts left right to h (takes-saturated x Add left right to s ts (scratch refl));
+pub add_sat-right : (t : Setting) → AreNarrow t.left t.right t.to → IsRightOfTwo (family.Arithmetic arithmetic_op.AddSat) t (saturated_code Add t.left t.right t.to t.scratch)
+add_sat-right t h = record {
+  ends = λ m v c a b os rest il ir scratch state.
+      subst (λ r. EndsOn m v c t.scratch t.left t.right t.to a b os (saturated_code Add t.left t.right t.to t.scratch) rest r) (sym (sized_saturates t.to (a +ℤ b) (narrow_sized t.to h.to_narrow)))
+      (sum_sat-ends m v c t.scratch t.left t.right t.to a b os rest h.left_narrow h.right_narrow h.to_narrow il ir (scratch refl));
+  typed = λ x ts scratch state. narrow-takes x (saturated_code Add t.left t.right t.to t.scratch) ts t.left t.right t.to h (takes-saturated x Add t.left t.right t.to t.scratch ts (scratch refl));
   closed = record { by = λ open_ifs rest h. h };
 }
 
-pub sub_sat-right : (left right to : IntTy) (s : ℕ) → AreNarrow left right to → IsRight SUB_SAT left right to s (saturated_code Sub left right to s)
-sub_sat-right left right to s h = record {
-  ends = λ m v c a b os rest il ir scratch state. difference_sat-ends m v c s left right to a b os rest h.left_narrow h.right_narrow h.to_narrow il ir (scratch refl);
-  typed = λ x ts scratch state. narrow-takes x (saturated_code Sub left right to s) ts left right to h (takes-saturated x Sub left right to s ts (scratch refl));
+pub sub_sat-right : (t : Setting) → AreNarrow t.left t.right t.to → IsRightOfTwo (family.Arithmetic arithmetic_op.SubSat) t (saturated_code Sub t.left t.right t.to t.scratch)
+sub_sat-right t h = record {
+  ends = λ m v c a b os rest il ir scratch state.
+      subst (λ r. EndsOn m v c t.scratch t.left t.right t.to a b os (saturated_code Sub t.left t.right t.to t.scratch) rest r) (sym (sized_saturates t.to (a -ℤ b) (narrow_sized t.to h.to_narrow)))
+      (difference_sat-ends m v c t.scratch t.left t.right t.to a b os rest h.left_narrow h.right_narrow h.to_narrow il ir (scratch refl));
+  typed = λ x ts scratch state. narrow-takes x (saturated_code Sub t.left t.right t.to t.scratch) ts t.left t.right t.to h (takes-saturated x Sub t.left t.right t.to t.scratch ts (scratch refl));
   closed = record { by = λ open_ifs rest h. h };
 }
 
-pub mul_sat-right : (left right to : IntTy) (s : ℕ) → AreNarrow left right to → IsRight MUL_SAT left right to s (saturated_product_code left right to s)
-mul_sat-right left right to s h = record {
-  ends = λ m v c a b os rest il ir scratch state. product_sat-ends m v c s left right to a b os rest h.left_narrow h.right_narrow h.to_narrow il ir (scratch refl);
-  typed = λ x ts scratch state. narrow-takes x (saturated_product_code left right to s) ts left right to h (takes-product_for (are_unsigned left right) x left right to s ts (scratch refl));
-  closed = closed-product_for (are_unsigned left right) left right to s;
+pub mul_sat-right : (t : Setting) → AreNarrow t.left t.right t.to → IsRightOfTwo (family.Arithmetic arithmetic_op.MulSat) t (saturated_product_code t.left t.right t.to t.scratch)
+mul_sat-right t h = record {
+  ends = λ m v c a b os rest il ir scratch state.
+      subst (λ r. EndsOn m v c t.scratch t.left t.right t.to a b os (saturated_product_code t.left t.right t.to t.scratch) rest r) (sym (sized_saturates t.to (a *ℤ b) (narrow_sized t.to h.to_narrow)))
+      (product_sat-ends m v c t.scratch t.left t.right t.to a b os rest h.left_narrow h.right_narrow h.to_narrow il ir (scratch refl));
+  typed = λ x ts scratch state. narrow-takes x (saturated_product_code t.left t.right t.to t.scratch) ts t.left t.right t.to h (takes-product_for (are_unsigned t.left t.right) x t.left t.right t.to t.scratch ts (scratch refl));
+  closed = closed-product_for (are_unsigned t.left t.right) t.left t.right t.to t.scratch;
 }

@@ -3,7 +3,9 @@ use Rattle.std.proofs.Common.{ℕ, pos, Bool, true, false, List, [], ◌∷◌, 
 use Rattle.std.specs.Prelude.{◌&&◌, if◌then◌else◌}
 use Rattle.zw_num.specs.Arithmetic.{width}
 use Rattle.zw_num.specs.declared.int_ty.IntTy.{IntTy}
-use Rattle.zw_num.specs.declared.op.TheConstants.{SHL, SHR, DIV, REM, DIV_TRUNC, REM_TRUNC}
+use Rattle.zw_num.specs.declared.operator.Operator.TheVariants as family
+use Rattle.zw_num.specs.declared.operator.Division.TheVariants as division_op
+use Rattle.zw_num.specs.declared.operator.Shift.TheVariants as shift_op
 use Rattle.zw_safety_narrow.proofs.CastRight.{takes-tested, takes-unless, takes-fitted, closed-unless, closed-fitted}
 use Rattle.zw_safety_narrow.proofs.DivisionRuns.{quotient-ends, rest-ends}
 use Rattle.zw_safety_narrow.proofs.NarrowTypes.{takes-word, takes-extended, takes-long, takes-wrap, takes-exact, exact-closed}
@@ -14,7 +16,8 @@ use Rattle.zw_safety_narrow.specs.CastCode.{tested, holds}
 use Rattle.zw_safety_narrow.specs.Checked.{ScratchIsTyped, PanicStateIsTyped}
 use Rattle.zw_safety_narrow.specs.DivisionCode.{is_zero, divisor_tested, are_unsigned, quotient_code, rest_code}
 use Rattle.zw_safety_narrow.specs.NarrowCode.{extended, exact_code, fitted}
-use Rattle.zw_safety_narrow.specs.Operators.{IsRight}
+use Rattle.zw_safety_narrow.specs.Operators.{IsRightOfTwo}
+use Rattle.zw_safety_narrow.specs.declared.setting.Setting.{Setting}
 use Rattle.zw_safety_narrow.specs.ShiftCode.{are_amounts, too_far, amount_tested, left_code, right_operator, right_code}
 use Rattle.zw_wasm.proofs.Closing.{closed-then}
 use Rattle.zw_wasm.proofs.TypingTakes.{takes-then, takes-instr, takes-i32_const}
@@ -49,21 +52,21 @@ closed-divisor s = record { by = λ open_ifs rest h. h }
 
 -- ---- shifts
 
-pub shl-right : (left right to : IntTy) (s : ℕ) → AreNarrow left right to → IsRight SHL left right to s (left_code right to s)
-shl-right left right to s h = record {
-  ends = λ m v c a b os rest il ir scratch state. left-ends m v c s left right to a b os rest h.left_narrow h.right_narrow h.to_narrow ir (scratch refl) state;
-  typed = λ x ts scratch state. narrow-takes x (left_code right to s) ts left right to h
-      (takes-then (takes-amount x (width to) right s (I32 ∷ ts) (scratch refl) state) (takes-then (takes-word x Shl ts) (takes-fitted x to ts)));
-  closed = closed-then (amount_tested (width to) right s) (Binary I32 Shl ∷ fitted to) (closed-amount (width to) right s)
-      (closed-then (Binary I32 Shl ∷ []) (fitted to) (record { by = λ open_ifs rest h. h }) (closed-fitted to));
+pub shl-right : (t : Setting) → AreNarrow t.left t.right t.to → IsRightOfTwo (family.Shift shift_op.Shl) t (left_code t.right t.to t.scratch)
+shl-right t h = record {
+  ends = λ m v c a b os rest il ir scratch state. left-ends m v c t.scratch t.left t.right t.to a b os rest h.left_narrow h.right_narrow h.to_narrow ir (scratch refl) state;
+  typed = λ x ts scratch state. narrow-takes x (left_code t.right t.to t.scratch) ts t.left t.right t.to h
+      (takes-then (takes-amount x (width t.to) t.right t.scratch (I32 ∷ ts) (scratch refl) state) (takes-then (takes-word x Shl ts) (takes-fitted x t.to ts)));
+  closed = closed-then (amount_tested (width t.to) t.right t.scratch) (Binary I32 Shl ∷ fitted t.to) (closed-amount (width t.to) t.right t.scratch)
+      (closed-then (Binary I32 Shl ∷ []) (fitted t.to) (record { by = λ open_ifs rest h. h }) (closed-fitted t.to));
 }
 
-pub shr-right : (left right to : IntTy) (s : ℕ) → AreNarrow left right to → IsRight SHR left right to s (right_code left right to s)
-shr-right left right to s h = record {
-  ends = λ m v c a b os rest il ir scratch state. right-ends m v c s left right to a b os rest h.left_narrow h.right_narrow h.to_narrow il ir (scratch refl) state;
-  typed = λ x ts scratch state. narrow-takes x (right_code left right to s) ts left right to h
-      (takes-then (takes-amount x (width to) right s (I32 ∷ ts) (scratch refl) state) (takes-word x (right_operator left) ts));
-  closed = closed-then (amount_tested (width to) right s) (Binary I32 (right_operator left) ∷ []) (closed-amount (width to) right s) (record { by = λ open_ifs rest h. h });
+pub shr-right : (t : Setting) → AreNarrow t.left t.right t.to → IsRightOfTwo (family.Shift shift_op.Shr) t (right_code t.left t.right t.to t.scratch)
+shr-right t h = record {
+  ends = λ m v c a b os rest il ir scratch state. right-ends m v c t.scratch t.left t.right t.to a b os rest h.left_narrow h.right_narrow h.to_narrow il ir (scratch refl) state;
+  typed = λ x ts scratch state. narrow-takes x (right_code t.left t.right t.to t.scratch) ts t.left t.right t.to h
+      (takes-then (takes-amount x (width t.to) t.right t.scratch (I32 ∷ ts) (scratch refl) state) (takes-word x (right_operator t.left) ts));
+  closed = closed-then (amount_tested (width t.to) t.right t.scratch) (Binary I32 (right_operator t.left) ∷ []) (closed-amount (width t.to) t.right t.scratch) (record { by = λ open_ifs rest h. h });
 }
 
 -- ---- quotients
@@ -85,18 +88,18 @@ closed-quotient left right to s =
     let u = are_unsigned left right && holds to left in
     closed-then (divisor_tested s) (if u then Binary I32 DivU ∷ [] else exact_code DivS left right to s) (closed-divisor s) (closed-quotient_for u left right to s)
 
-pub div-right : (left right to : IntTy) (s : ℕ) → AreNarrow left right to → IsRight DIV left right to s (quotient_code left right to s)
-div-right left right to s h = record {
-  ends = λ m v c a b os rest il ir scratch state. quotient-ends m v c s left right to a b os rest h.left_narrow h.right_narrow h.to_narrow il ir (scratch refl) state;
-  typed = λ x ts scratch state. narrow-takes x (quotient_code left right to s) ts left right to h (takes-quotient x left right to s ts (scratch refl) state);
-  closed = closed-quotient left right to s;
+pub div-right : (t : Setting) → AreNarrow t.left t.right t.to → IsRightOfTwo (family.Division division_op.Div) t (quotient_code t.left t.right t.to t.scratch)
+div-right t h = record {
+  ends = λ m v c a b os rest il ir scratch state. quotient-ends m v c t.scratch t.left t.right t.to a b os rest h.left_narrow h.right_narrow h.to_narrow il ir (scratch refl) state;
+  typed = λ x ts scratch state. narrow-takes x (quotient_code t.left t.right t.to t.scratch) ts t.left t.right t.to h (takes-quotient x t.left t.right t.to t.scratch ts (scratch refl) state);
+  closed = closed-quotient t.left t.right t.to t.scratch;
 }
 
-pub div_trunc-right : (left right to : IntTy) (s : ℕ) → AreNarrow left right to → IsRight DIV_TRUNC left right to s (quotient_code left right to s)
-div_trunc-right left right to s h = record {
-  ends = λ m v c a b os rest il ir scratch state. quotient-ends m v c s left right to a b os rest h.left_narrow h.right_narrow h.to_narrow il ir (scratch refl) state;
-  typed = λ x ts scratch state. narrow-takes x (quotient_code left right to s) ts left right to h (takes-quotient x left right to s ts (scratch refl) state);
-  closed = closed-quotient left right to s;
+pub div_trunc-right : (t : Setting) → AreNarrow t.left t.right t.to → IsRightOfTwo (family.Division division_op.DivTrunc) t (quotient_code t.left t.right t.to t.scratch)
+div_trunc-right t h = record {
+  ends = λ m v c a b os rest il ir scratch state. quotient-ends m v c t.scratch t.left t.right t.to a b os rest h.left_narrow h.right_narrow h.to_narrow il ir (scratch refl) state;
+  typed = λ x ts scratch state. narrow-takes x (quotient_code t.left t.right t.to t.scratch) ts t.left t.right t.to h (takes-quotient x t.left t.right t.to t.scratch ts (scratch refl) state);
+  closed = closed-quotient t.left t.right t.to t.scratch;
 }
 
 -- ---- rests
@@ -117,16 +120,16 @@ closed-rest left right s =
     let u = are_unsigned left right in
     closed-then (divisor_tested s) (if u then Binary I32 RemU ∷ [] else extended left right s ++ (Binary I64 RemS ∷ Convert Wrap ∷ [])) (closed-divisor s) (closed-rest_for u left right s)
 
-pub rem-right : (left right to : IntTy) (s : ℕ) → AreNarrow left right to → IsRight REM left right to s (rest_code left right s)
-rem-right left right to s h = record {
-  ends = λ m v c a b os rest il ir scratch state. rest-ends m v c s left right to a b os rest h.left_narrow h.right_narrow h.to_narrow il ir (scratch refl) state;
-  typed = λ x ts scratch state. narrow-takes x (rest_code left right s) ts left right to h (takes-rest x left right s ts (scratch refl) state);
-  closed = closed-rest left right s;
+pub rem-right : (t : Setting) → AreNarrow t.left t.right t.to → IsRightOfTwo (family.Division division_op.Rem) t (rest_code t.left t.right t.scratch)
+rem-right t h = record {
+  ends = λ m v c a b os rest il ir scratch state. rest-ends m v c t.scratch t.left t.right t.to a b os rest h.left_narrow h.right_narrow h.to_narrow il ir (scratch refl) state;
+  typed = λ x ts scratch state. narrow-takes x (rest_code t.left t.right t.scratch) ts t.left t.right t.to h (takes-rest x t.left t.right t.scratch ts (scratch refl) state);
+  closed = closed-rest t.left t.right t.scratch;
 }
 
-pub rem_trunc-right : (left right to : IntTy) (s : ℕ) → AreNarrow left right to → IsRight REM_TRUNC left right to s (rest_code left right s)
-rem_trunc-right left right to s h = record {
-  ends = λ m v c a b os rest il ir scratch state. rest-ends m v c s left right to a b os rest h.left_narrow h.right_narrow h.to_narrow il ir (scratch refl) state;
-  typed = λ x ts scratch state. narrow-takes x (rest_code left right s) ts left right to h (takes-rest x left right s ts (scratch refl) state);
-  closed = closed-rest left right s;
+pub rem_trunc-right : (t : Setting) → AreNarrow t.left t.right t.to → IsRightOfTwo (family.Division division_op.RemTrunc) t (rest_code t.left t.right t.scratch)
+rem_trunc-right t h = record {
+  ends = λ m v c a b os rest il ir scratch state. rest-ends m v c t.scratch t.left t.right t.to a b os rest h.left_narrow h.right_narrow h.to_narrow il ir (scratch refl) state;
+  typed = λ x ts scratch state. narrow-takes x (rest_code t.left t.right t.scratch) ts t.left t.right t.to h (takes-rest x t.left t.right t.scratch ts (scratch refl) state);
+  closed = closed-rest t.left t.right t.scratch;
 }

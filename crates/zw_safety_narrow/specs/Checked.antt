@@ -1,46 +1,24 @@
 -- Checked: what the code of an operator does. It takes two operands, and leaves the value that the operator gives on the
 -- exact numbers, or tells the cause and traps.
-use Rattle.std.specs.Prelude.{◌≡◌, ◌⊎◌, ℕ, ◌+◌, ◌<◌, ◌≤◌, ◌^◌, Bool, true, false, nat_eq, not, List, ◌∷◌, ◌++◌, length, Option, Some, None, slice_get, slice_set, if◌then◌else◌}
-use Rattle.zw_num.specs.Arithmetic.{sum_in, difference_in, add_wrap_unsigned}
+use Rattle.std.specs.Prelude.{◌≡◌, ℕ, ◌+◌, ◌<◌, ◌≤◌, true, false, List, ◌∷◌, length, Option, Some, None, slice_get, slice_set}
 use Rattle.zw_num.specs.declared.int_ty.IntTy.{IntTy}
 use Rattle.zw_num.specs.declared.int_ty.IntTy.TheVariants.{Sized}
-use Rattle.zw_num.specs.declared.op.TheConstants.{ADD, SUB, ADD_WRAP}
 use Rattle.zw_session.specs.Causes.{integer_overflow}
 use Rattle.zw_wasm.specs.declared.module.GlobalDef.{GlobalDef}
-use Rattle.zw_wasm.specs.declared.module.Instr.{Instr}
 use Rattle.zw_wasm.specs.declared.module.Module.{Module}
 use Rattle.zw_wasm.specs.declared.module.ValType.{ValType}
 use Rattle.zw_wasm.specs.declared.module.ValType.TheVariants as ty
 use Rattle.zw_wasm.specs.Reduction.{Config, World, Store, Trap, unreachable_trap}
-use Rattle.zw_wasm.specs.Sequences.{placed, with_locals, Runs, Halts, Takes}
+use Rattle.zw_wasm.specs.Sequences.{placed, with_locals, Runs, Halts}
 use Rattle.zw_wasm.specs.Signature.{View}
 use Rattle.zw_wasm.specs.declared.num.Num.{Num}
 use Rattle.zw_wasm.specs.declared.num.Num.TheVariants.{I32}
-use Rattle.zw_wasm.specs.Structure.{Code, code_of}
-use Rattle.zw_wasm.specs.Typing.{Context}
-use Rattle.zw_wasm.specs.WellFormed.{IsClosed}
+use Rattle.zw_wasm.specs.Structure.{Code}
 
 abbrev pub u32 : IntTy
 u32 = Sized false 32
 
--- an operator that is built by now, on `u32`
-pub record IsBuilt (op : ℕ) (left right to : IntTy) : Type 0 where
-  pub operator : (op ≡ ADD) ⊎ (op ≡ SUB) ⊎ (op ≡ ADD_WRAP)
-  pub left_is : left ≡ u32
-  pub right_is : right ≡ u32
-  pub to_is : to ≡ u32
-
--- the value of an operator on `u32`, or none where its exact result isn't in the type
-abbrev pub value_of : ℕ → ℕ → ℕ → Option ℕ
-value_of op x y =
-    if nat_eq op ADD then sum_in 32 x y
-    else (if nat_eq op SUB then difference_in 32 x y else Some (add_wrap_unsigned 32 x y))
-
--- whether the code of an operator writes locals: the eight from `scratch` on are there for it
-abbrev pub needs_scratch : ℕ → Bool
-needs_scratch op = not (nat_eq op ADD_WRAP)
-
--- those eight are there
+-- the eight locals that code writes are there
 abbrev pub HasScratch : ℕ → List Num → Type 0
 HasScratch scratch locals = scratch + 8 ≤ length locals
 
@@ -100,10 +78,3 @@ pub record Overflows (m : Module) (v : View) (start : Config) : Type 0 where
 abbrev pub Answers : Module → View → ℕ → Option ℕ → Config → Code → List Num → Type 0
 Answers m v scratch (Some value) start rest os = Leaves m v scratch value start rest os
 Answers m v scratch None start rest os = Overflows m v start
-
--- The code of an operator, wherever it stands.
-pub record IsChecked (op scratch : ℕ) (is : List Instr) : Type 0 where
-  pub answers : (m : Module) (v : View) (c : Config) (x y : ℕ) (os : List Num) (rest : List Instr) → x < 2 ^ 32 → y < 2 ^ 32 → (needs_scratch op ≡ true → HasScratch scratch c.frame.locals) → HasPanicState c.world.store →
-      Answers m v scratch (value_of op x y) (placed (code_of (is ++ rest)) (I32 y ∷ I32 x ∷ os) c) (code_of rest) os
-  pub typed : (x : Context) (ts : List ValType) → (needs_scratch op ≡ true → ScratchIsTyped scratch x.locals) → PanicStateIsTyped x.module_ → Takes x is (ty.I32 ∷ ty.I32 ∷ ts) (ty.I32 ∷ ts)
-  pub closed : IsClosed is

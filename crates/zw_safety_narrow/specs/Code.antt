@@ -1,7 +1,6 @@
 -- The code of checked operators.
-use Rattle.std.specs.Prelude.{ℕ, pos, ◌+◌, nat_eq, List, [], ◌∷◌, ◌++◌, None, if◌then◌else◌}
+use Rattle.std.specs.Prelude.{ℕ, pos, ◌+◌, List, [], ◌∷◌, ◌++◌, None}
 use Rattle.zw_session.specs.Causes.{integer_overflow}
-use Rattle.zw_num.specs.declared.op.TheConstants.{ADD, SUB}
 use Rattle.zw_wasm.specs.declared.module.Instr.{Instr}
 use Rattle.zw_wasm.specs.declared.module.Instr.TheVariants.{Unreachable, If, End, LocalGet, LocalSet, GlobalSet, I32Const}
 use Rattle.zw_wasm.specs.Structure.{i32_add, i32_lt_u, i32_sub}
@@ -32,7 +31,3 @@ add_code scratch =
 abbrev pub sub_code : ℕ → List Instr
 sub_code scratch =
     kept scratch ++ i32_lt_u ∷ if_panics integer_overflow ++ LocalGet (scratch + 1) ∷ LocalGet scratch ∷ i32_sub ∷ []
-
-abbrev pub checked_code : ℕ → ℕ → List Instr
-checked_code op scratch =
-    if nat_eq op ADD then add_code scratch else (if nat_eq op SUB then sub_code scratch else i32_add ∷ [])

@@ -1,5 +1,5 @@
 -- The code of each family of operators on types of at most 32 bits. An operator of one operand has that of the setting's left type.
-use Rattle.std.specs.Prelude.{ℕ, List, []}
+use Rattle.std.specs.Prelude.{List, []}
 use Rattle.zw_num.specs.declared.operator.Arithmetic.{Arithmetic}
 use Rattle.zw_num.specs.declared.operator.Arithmetic.TheVariants as arithmetic
 use Rattle.zw_num.specs.declared.operator.Division.{Division}
@@ -20,11 +20,8 @@ use Rattle.zw_num.specs.declared.operator.Cast.{Cast}
 use Rattle.zw_num.specs.declared.operator.Cast.TheVariants as cast
 use Rattle.zw_num.specs.declared.operator.Logic.{Logic}
 use Rattle.zw_num.specs.declared.operator.Logic.TheVariants as logic
-use Rattle.zw_num.specs.declared.operator.Measure.{Measure}
-use Rattle.zw_num.specs.declared.operator.Measure.TheVariants as measure
 use Rattle.zw_num.specs.declared.operator.Operator.{Operator}
 use Rattle.zw_num.specs.declared.operator.Operator.TheVariants as family
-use Rattle.zw_num.specs.declared.op.TheConstants.{ADD, SUB, MUL, ADD_WRAP, SUB_WRAP, MUL_WRAP, ADD_SAT, SUB_SAT, MUL_SAT, DIV, REM, DIV_TRUNC, DIV_FLOOR, DIV_EXACT, REM_TRUNC, MOD, BIT_AND, BIT_OR, BIT_XOR, SHL, SHR, SHL_SAT, SHL_EXACT, SHR_EXACT, EQUAL, NOT_EQUAL, LESS, LESS_OR_EQUAL, GREATER, GREATER_OR_EQUAL, MIN, MAX, NEG, NEG_WRAP, BIT_NOT, BYTE_SWAP, BIT_REVERSE, ABS, CLZ, CTZ, POP_COUNT, AS, INT_CAST, TRUNCATE, BIT_CAST, INT_FROM_BOOL, AND, OR, NOT, SIZE_OF, ALIGN_OF, BIT_SIZE_OF}
 use Rattle.zw_safety_narrow.specs.CastCode.{cast_code, truncated_code, negated_code, opposite_code, turned_code, distance_code}
 use Rattle.zw_safety_narrow.specs.CompareCode.{comparison_code, choice_code}
 use Rattle.zw_safety_narrow.specs.CountCode.{leading_code, trailing_code, ones_code}
@@ -32,7 +29,7 @@ use Rattle.zw_safety_narrow.specs.DivisionCode.{quotient_code, rest_code}
 use Rattle.zw_safety_narrow.specs.ExactCode.{exact_quotient_code, left_exact_code, right_exact_code}
 use Rattle.zw_safety_narrow.specs.FloorCode.{modulo_code, floor_code}
 use Rattle.zw_safety_narrow.specs.NarrowCode.{sum_code, difference_code, exact_code, wrapped_code}
-use Rattle.zw_safety_narrow.specs.OperatorCode.{word_code, not_code}
+use Rattle.zw_safety_narrow.specs.WordCode.{word_code, not_code}
 use Rattle.zw_safety_narrow.specs.ReversalCode.{byte_swap_code, bit_reverse_code}
 use Rattle.zw_safety_narrow.specs.SaturatingCode.{saturated_code, saturated_product_code, saturated_left_code}
 use Rattle.zw_safety_narrow.specs.ShiftCode.{left_code, right_code}
@@ -133,91 +130,3 @@ narrow_code (family.Count x) t = code_of_count x t
 narrow_code (family.Cast x) t = code_of_cast x t
 narrow_code (family.Logic x) t = code_of_logic x
 narrow_code (family.Measure x) t = []
-
--- The number that an operator has in the tables that go by numbers.
-abbrev pub number_of_arithmetic : Arithmetic → ℕ
-number_of_arithmetic arithmetic.Add = ADD
-number_of_arithmetic arithmetic.Sub = SUB
-number_of_arithmetic arithmetic.Mul = MUL
-number_of_arithmetic arithmetic.AddWrap = ADD_WRAP
-number_of_arithmetic arithmetic.SubWrap = SUB_WRAP
-number_of_arithmetic arithmetic.MulWrap = MUL_WRAP
-number_of_arithmetic arithmetic.AddSat = ADD_SAT
-number_of_arithmetic arithmetic.SubSat = SUB_SAT
-number_of_arithmetic arithmetic.MulSat = MUL_SAT
-
-abbrev pub number_of_division : Division → ℕ
-number_of_division division.Div = DIV
-number_of_division division.Rem = REM
-number_of_division division.DivTrunc = DIV_TRUNC
-number_of_division division.DivFloor = DIV_FLOOR
-number_of_division division.DivExact = DIV_EXACT
-number_of_division division.RemTrunc = REM_TRUNC
-number_of_division division.Mod = MOD
-
-abbrev pub number_of_bitwise : Bitwise → ℕ
-number_of_bitwise bitwise.And = BIT_AND
-number_of_bitwise bitwise.Or = BIT_OR
-number_of_bitwise bitwise.Xor = BIT_XOR
-
-abbrev pub number_of_shift : Shift → ℕ
-number_of_shift shift.Shl = SHL
-number_of_shift shift.Shr = SHR
-number_of_shift shift.ShlSat = SHL_SAT
-number_of_shift shift.ShlExact = SHL_EXACT
-number_of_shift shift.ShrExact = SHR_EXACT
-
-abbrev pub number_of_comparison : Comparison → ℕ
-number_of_comparison comparison.Equal = EQUAL
-number_of_comparison comparison.NotEqual = NOT_EQUAL
-number_of_comparison comparison.Less = LESS
-number_of_comparison comparison.LessOrEqual = LESS_OR_EQUAL
-number_of_comparison comparison.Greater = GREATER
-number_of_comparison comparison.GreaterOrEqual = GREATER_OR_EQUAL
-
-abbrev pub number_of_extreme : Extreme → ℕ
-number_of_extreme extreme.Min = MIN
-number_of_extreme extreme.Max = MAX
-
-abbrev pub number_of_unary : Unary → ℕ
-number_of_unary unary.Neg = NEG
-number_of_unary unary.NegWrap = NEG_WRAP
-number_of_unary unary.BitNot = BIT_NOT
-number_of_unary unary.ByteSwap = BYTE_SWAP
-number_of_unary unary.BitReverse = BIT_REVERSE
-number_of_unary unary.Abs = ABS
-
-abbrev pub number_of_count : Count → ℕ
-number_of_count count.Clz = CLZ
-number_of_count count.Ctz = CTZ
-number_of_count count.PopCount = POP_COUNT
-
-abbrev pub number_of_cast : Cast → ℕ
-number_of_cast cast.As = AS
-number_of_cast cast.IntCast = INT_CAST
-number_of_cast cast.Truncate = TRUNCATE
-number_of_cast cast.BitCast = BIT_CAST
-number_of_cast cast.IntFromBool = INT_FROM_BOOL
-
-abbrev pub number_of_logic : Logic → ℕ
-number_of_logic logic.And = AND
-number_of_logic logic.Or = OR
-number_of_logic logic.Not = NOT
-
-abbrev pub number_of_measure : Measure → ℕ
-number_of_measure measure.SizeOf = SIZE_OF
-number_of_measure measure.AlignOf = ALIGN_OF
-number_of_measure measure.BitSizeOf = BIT_SIZE_OF
-
-abbrev pub number_of : Operator → ℕ
-number_of (family.Arithmetic x) = number_of_arithmetic x
-number_of (family.Division x) = number_of_division x
-number_of (family.Bitwise x) = number_of_bitwise x
-number_of (family.Shift x) = number_of_shift x
-number_of (family.Comparison x) = number_of_comparison x
-number_of (family.Extreme x) = number_of_extreme x
-number_of (family.Unary x) = number_of_unary x
-number_of (family.Count x) = number_of_count x
-number_of (family.Cast x) = number_of_cast x
-number_of (family.Logic x) = number_of_logic x
-number_of (family.Measure x) = number_of_measure x

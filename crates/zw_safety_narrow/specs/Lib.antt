@@ -10,6 +10,6 @@ pub mod FloorCode
 pub mod CountCode
 pub mod ExactCode
 pub mod ReversalCode
-pub mod OperatorCode
+pub mod WordCode
 pub mod Operators
 pub mod Families

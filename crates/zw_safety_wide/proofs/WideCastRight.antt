@@ -4,12 +4,16 @@ use Rattle.std.specs.Prelude.{nat_lt, nat_le, if◌then◌else◌}
 use Rattle.zw_num.specs.Arithmetic.{width}
 use Rattle.zw_num.specs.declared.int_ty.IntTy.{IntTy}
 use Rattle.zw_num.specs.declared.int_ty.IntTy.TheVariants.{Sized, Comptime}
-use Rattle.zw_num.specs.declared.op.TheConstants.{INT_CAST, ABS, CLZ, CTZ, POP_COUNT}
+use Rattle.zw_num.specs.declared.operator.Operator.TheVariants as family
+use Rattle.zw_num.specs.declared.operator.Cast.TheVariants as cast_op
+use Rattle.zw_num.specs.declared.operator.Count.TheVariants as count_op
+use Rattle.zw_num.specs.declared.operator.Unary.TheVariants as unary_op
 use Rattle.zw_safety_narrow.proofs.CheckedTypes.{takes-if_panics}
 use Rattle.zw_safety_narrow.proofs.NarrowTypes.{takes-long, takes-long_const, takes-compare_long}
 use Rattle.zw_safety_narrow.proofs.SaturatingRight.{takes-select_long, takes-tee_long}
 use Rattle.zw_safety_narrow.specs.Checked.{PanicStateIsTyped}
-use Rattle.zw_safety_narrow.specs.Operators.{IsStored, IsRightOnOne, type_of}
+use Rattle.zw_safety_narrow.specs.Operators.{IsStored, IsRightOfOne, type_of}
+use Rattle.zw_safety_narrow.specs.declared.setting.Setting.{Setting}
 use Rattle.zw_safety_wide.proofs.WideCastRuns.{wide_cast-ends, wide_distance-ends, wide_ones-ends, wide_leading-ends, wide_trailing-ends}
 use Rattle.zw_safety_wide.specs.WideCastCode.{long_tested, long_above, long_outside, long_negative, long_cast, wide_cast_code, long_distance, wide_distance_code, own_long, wide_ones_code, less_zeros, wide_leading_code, long_at_most, wide_trailing_code}
 use Rattle.zw_safety_words.proofs.WideBitRight.{takes-settled}
@@ -93,11 +97,11 @@ cast-closed Comptime (Sized true to) s = nothing-closed
 cast-closed Comptime (Sized false to) s = nothing-closed
 cast-closed Comptime Comptime s = nothing-closed
 
-pub wide_cast-right : (from to : IntTy) (s : ℕ) → IsStored from → IsStored to → IsRightOnOne INT_CAST from to s (wide_cast_code from to s)
-wide_cast-right from to s hf ht = record {
-  ends = λ m v c a os rest i scratch state. wide_cast-ends m v c s from to a os rest hf ht i (scratch refl) state;
-  typed = λ x ts scratch state. takes-middle x from to (long_cast from to s) ts (takes-cast x from to s ts (longs s x.locals (scratch refl)) state);
-  closed = middle-closed from to (long_cast from to s) (cast-closed from to s);
+pub wide_cast-right : (t : Setting) → IsStored t.left → IsStored t.to → IsRightOfOne (family.Cast cast_op.IntCast) t (wide_cast_code t.left t.to t.scratch)
+wide_cast-right t hf ht = record {
+  ends = λ m v c a os rest i scratch state. wide_cast-ends m v c t.scratch t.left t.to a os rest hf ht i scratch state;
+  typed = λ x ts scratch state. takes-middle x t.left t.to (long_cast t.left t.to t.scratch) ts (takes-cast x t.left t.to t.scratch ts (longs t.scratch x.locals scratch) state);
+  closed = middle-closed t.left t.to (long_cast t.left t.to t.scratch) (cast-closed t.left t.to t.scratch);
 }
 
 -- ---- how far a number is from 0
@@ -117,11 +121,11 @@ distance-closed (Sized true count) s = record { by = λ open_ifs rest h. h }
 distance-closed (Sized false count) s = nothing-closed
 distance-closed Comptime s = nothing-closed
 
-pub wide_abs-right : (from to : IntTy) (s : ℕ) → IsStored from → IsStored to → IsRightOnOne ABS from to s (wide_distance_code from to s)
-wide_abs-right from to s hf ht = record {
-  ends = λ m v c a os rest i scratch state. wide_distance-ends m v c s from to a os rest hf i (scratch refl);
-  typed = λ x ts scratch state. takes-middle x from to (long_distance from s) ts (takes-distance x from s ts (longs s x.locals (scratch refl)));
-  closed = middle-closed from to (long_distance from s) (distance-closed from s);
+pub wide_abs-right : (t : Setting) → IsStored t.left → IsStored t.to → IsRightOfOne (family.Unary unary_op.Abs) t (wide_distance_code t.left t.to t.scratch)
+wide_abs-right t hf ht = record {
+  ends = λ m v c a os rest i scratch state. wide_distance-ends m v c t.scratch t.left t.to a os rest hf i scratch;
+  typed = λ x ts scratch state. takes-middle x t.left t.to (long_distance t.left t.scratch) ts (takes-distance x t.left t.scratch ts (longs t.scratch x.locals scratch));
+  closed = middle-closed t.left t.to (long_distance t.left t.scratch) (distance-closed t.left t.scratch);
 }
 
 -- ---- counts
@@ -142,24 +146,24 @@ own-closed Comptime = nothing-closed
 unary-closed : (o : UnaryOperator) → IsClosed (Unary I64 o ∷ [])
 unary-closed o = record { by = λ open_ifs rest h. h }
 
-pub wide_pop_count-right : (from to : IntTy) (s : ℕ) → IsStored from → IsStored to → IsRightOnOne POP_COUNT from to s (wide_ones_code from to)
-wide_pop_count-right from to s hf ht =
-    let is = own_long from ++ Unary I64 Popcnt ∷ [] in
+pub wide_pop_count-right : (t : Setting) → IsStored t.left → IsStored t.to → IsRightOfOne (family.Count count_op.PopCount) t (wide_ones_code t.left t.to)
+wide_pop_count-right t hf ht =
+    let is = own_long t.left ++ Unary I64 Popcnt ∷ [] in
     record {
-      ends = λ m v c a os rest i scratch state. wide_ones-ends m v c s from to a os rest hf i;
-      typed = λ x ts scratch state. takes-middle x from to is ts (takes-then (takes-own x from ts) (takes-unary x Popcnt ts));
-      closed = middle-closed from to is (closed-then (own-closed from) (unary-closed Popcnt));
+      ends = λ m v c a os rest i scratch state. wide_ones-ends m v c t.scratch t.left t.to a os rest hf i;
+      typed = λ x ts scratch state. takes-middle x t.left t.to is ts (takes-then (takes-own x t.left ts) (takes-unary x Popcnt ts));
+      closed = middle-closed t.left t.to is (closed-then (own-closed t.left) (unary-closed Popcnt));
     }
 
-pub wide_clz-right : (from to : IntTy) (s : ℕ) → IsStored from → IsStored to → IsRightOnOne CLZ from to s (wide_leading_code from to)
-wide_clz-right from to s hf ht =
-    let b = nat_lt (width from) 64 in
-    let less = I64Const (pos (64 - width from)) ∷ Binary I64 Sub ∷ [] in
-    let is = own_long from ++ (Unary I64 Clz ∷ less_zeros from) in
+pub wide_clz-right : (t : Setting) → IsStored t.left → IsStored t.to → IsRightOfOne (family.Count count_op.Clz) t (wide_leading_code t.left t.to)
+wide_clz-right t hf ht =
+    let b = nat_lt (width t.left) 64 in
+    let less = I64Const (pos (64 - width t.left)) ∷ Binary I64 Sub ∷ [] in
+    let is = own_long t.left ++ (Unary I64 Clz ∷ less_zeros t.left) in
     record {
-      ends = λ m v c a os rest i scratch state. wide_leading-ends m v c s from to a os rest hf i;
-      typed = λ x ts scratch state. takes-middle x from to is ts (takes-then (takes-own x from ts) (takes-then (takes-unary x Clz ts) (takes-if b x less ts (takes-then (takes-long_const x _ (I64 ∷ ts)) (takes-long x Sub ts)))));
-      closed = middle-closed from to is (closed-then (own-closed from) (closed-then (unary-closed Clz) (if_closed b less (record { by = λ open_ifs rest h. h }))));
+      ends = λ m v c a os rest i scratch state. wide_leading-ends m v c t.scratch t.left t.to a os rest hf i;
+      typed = λ x ts scratch state. takes-middle x t.left t.to is ts (takes-then (takes-own x t.left ts) (takes-then (takes-unary x Clz ts) (takes-if b x less ts (takes-then (takes-long_const x _ (I64 ∷ ts)) (takes-long x Sub ts)))));
+      closed = middle-closed t.left t.to is (closed-then (own-closed t.left) (closed-then (unary-closed Clz) (if_closed b less (record { by = λ open_ifs rest h. h }))));
     }
 
 takes-at_most : (x : Context) (top s : ℕ) (ts : List ValType) → LongsAreTyped s x.locals → Takes x (LocalTee (s + 4) ∷ I64Const (pos top) ∷ LocalGet (s + 4) ∷ I64Const (pos top) ∷ Compare I64 LtU ∷ Select ∷ []) (I64 ∷ ts) (I64 ∷ ts)
@@ -169,13 +173,13 @@ takes-at_most x top s ts h =
     (takes-then (takes-local_get x (s + 4) I64 (I64 ∷ I64 ∷ ts) h.right)
     (takes-then (takes-long_const x (pos top) (I64 ∷ I64 ∷ I64 ∷ ts)) (takes-then (takes-compare_long x LtU (I64 ∷ I64 ∷ ts)) (takes-select_long x ts)))))
 
-pub wide_ctz-right : (from to : IntTy) (s : ℕ) → IsStored from → IsStored to → IsRightOnOne CTZ from to s (wide_trailing_code from to s)
-wide_ctz-right from to s hf ht =
-    let b = nat_lt (width from) 64 in
-    let few = LocalTee (s + 4) ∷ I64Const (pos (width from)) ∷ LocalGet (s + 4) ∷ I64Const (pos (width from)) ∷ Compare I64 LtU ∷ Select ∷ [] in
-    let is = own_long from ++ (Unary I64 Ctz ∷ long_at_most from s) in
+pub wide_ctz-right : (t : Setting) → IsStored t.left → IsStored t.to → IsRightOfOne (family.Count count_op.Ctz) t (wide_trailing_code t.left t.to t.scratch)
+wide_ctz-right t hf ht =
+    let b = nat_lt (width t.left) 64 in
+    let few = LocalTee (t.scratch + 4) ∷ I64Const (pos (width t.left)) ∷ LocalGet (t.scratch + 4) ∷ I64Const (pos (width t.left)) ∷ Compare I64 LtU ∷ Select ∷ [] in
+    let is = own_long t.left ++ (Unary I64 Ctz ∷ long_at_most t.left t.scratch) in
     record {
-      ends = λ m v c a os rest i scratch state. wide_trailing-ends m v c s from to a os rest hf i (scratch refl);
-      typed = λ x ts scratch state. takes-middle x from to is ts (takes-then (takes-own x from ts) (takes-then (takes-unary x Ctz ts) (takes-if b x few ts (takes-at_most x (width from) s ts (longs s x.locals (scratch refl))))));
-      closed = middle-closed from to is (closed-then (own-closed from) (closed-then (unary-closed Ctz) (if_closed b few (record { by = λ open_ifs rest h. h }))));
+      ends = λ m v c a os rest i scratch state. wide_trailing-ends m v c t.scratch t.left t.to a os rest hf i scratch;
+      typed = λ x ts scratch state. takes-middle x t.left t.to is ts (takes-then (takes-own x t.left ts) (takes-then (takes-unary x Ctz ts) (takes-if b x few ts (takes-at_most x (width t.left) t.scratch ts (longs t.scratch x.locals scratch)))));
+      closed = middle-closed t.left t.to is (closed-then (own-closed t.left) (closed-then (unary-closed Ctz) (if_closed b few (record { by = λ open_ifs rest h. h }))));
     }

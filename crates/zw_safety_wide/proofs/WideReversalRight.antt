@@ -4,11 +4,13 @@ use Rattle.std.specs.Prelude.{nat_eq, nat_lt, if◌then◌else◌}
 use Rattle.zw_num.specs.Arithmetic.{width}
 use Rattle.zw_num.specs.declared.int_ty.IntTy.{IntTy}
 use Rattle.zw_num.specs.declared.int_ty.IntTy.TheVariants.{Sized}
-use Rattle.zw_num.specs.declared.op.TheConstants.{BYTE_SWAP, BIT_REVERSE}
+use Rattle.zw_num.specs.declared.operator.Operator.TheVariants as family
+use Rattle.zw_num.specs.declared.operator.Unary.TheVariants as unary_op
 use Rattle.zw_safety_narrow.proofs.NarrowTypes.{takes-long, takes-long_const}
 use Rattle.zw_safety_narrow.proofs.SaturatingRight.{takes-tee_long}
 use Rattle.zw_safety_narrow.specs.CastCode.{holds}
-use Rattle.zw_safety_narrow.specs.Operators.{IsStored, IsRightOnOne, type_of}
+use Rattle.zw_safety_narrow.specs.Operators.{IsStored, IsRightOfOne, type_of}
+use Rattle.zw_safety_narrow.specs.declared.setting.Setting.{Setting}
 use Rattle.zw_safety_wide.proofs.WideReversalRuns.{wide_bit_reverse-ends, wide_byte_swap-ends}
 use Rattle.zw_safety_wide.specs.WideReversalCode.{long_neighbours_swapped, long_bytes_turned, long_bits_turned, long_lowered, with_bits, wide_reversal_code, wide_byte_swap_code, wide_bit_reverse_code}
 use Rattle.zw_safety_words.proofs.WideBitRight.{takes-settled, takes-truncated_for, truncated_for-closed}
@@ -68,16 +70,16 @@ turned_for-closed false turned from to h =
 reversal-closed : (turned : List Instr) (from to : IntTy) → IsClosed turned → IsClosed (wide_reversal_code turned from to)
 reversal-closed turned from to h = closed-then (widened-closed from) (turned_for-closed (nat_eq (width from) 0) turned from to h)
 
-pub wide_byte_swap-right : (from to : IntTy) (s : ℕ) → IsStored from → IsStored to → width from % 8 ≡ 0 → IsRightOnOne BYTE_SWAP from to s (wide_byte_swap_code from to s)
-wide_byte_swap-right from to s hf ht whole = record {
-  ends = λ m v c a os rest i scratch state. wide_byte_swap-ends m v c s from to a os rest hf ht whole i (scratch refl);
-  typed = λ x ts scratch state. takes-reversal x (long_bytes_turned s) from to ts (takes-bytes x s ts (longs s x.locals (scratch refl)));
-  closed = reversal-closed (long_bytes_turned s) from to (record { by = λ open_ifs rest h. h });
+pub wide_byte_swap-right : (t : Setting) → IsStored t.left → IsStored t.to → width t.left % 8 ≡ 0 → IsRightOfOne (family.Unary unary_op.ByteSwap) t (wide_byte_swap_code t.left t.to t.scratch)
+wide_byte_swap-right t hf ht whole = record {
+  ends = λ m v c a os rest i scratch state. wide_byte_swap-ends m v c t.scratch t.left t.to a os rest hf ht whole i scratch;
+  typed = λ x ts scratch state. takes-reversal x (long_bytes_turned t.scratch) t.left t.to ts (takes-bytes x t.scratch ts (longs t.scratch x.locals scratch));
+  closed = reversal-closed (long_bytes_turned t.scratch) t.left t.to (record { by = λ open_ifs rest h. h });
 }
 
-pub wide_bit_reverse-right : (from to : IntTy) (s : ℕ) → IsStored from → IsStored to → IsRightOnOne BIT_REVERSE from to s (wide_bit_reverse_code from to s)
-wide_bit_reverse-right from to s hf ht = record {
-  ends = λ m v c a os rest i scratch state. wide_bit_reverse-ends m v c s from to a os rest hf ht i (scratch refl);
-  typed = λ x ts scratch state. takes-reversal x (long_bits_turned s) from to ts (takes-bits x s ts (longs s x.locals (scratch refl)));
-  closed = reversal-closed (long_bits_turned s) from to (record { by = λ open_ifs rest h. h });
+pub wide_bit_reverse-right : (t : Setting) → IsStored t.left → IsStored t.to → IsRightOfOne (family.Unary unary_op.BitReverse) t (wide_bit_reverse_code t.left t.to t.scratch)
+wide_bit_reverse-right t hf ht = record {
+  ends = λ m v c a os rest i scratch state. wide_bit_reverse-ends m v c t.scratch t.left t.to a os rest hf ht i scratch;
+  typed = λ x ts scratch state. takes-reversal x (long_bits_turned t.scratch) t.left t.to ts (takes-bits x t.scratch ts (longs t.scratch x.locals scratch));
+  closed = reversal-closed (long_bits_turned t.scratch) t.left t.to (record { by = λ open_ifs rest h. h });
 }

@@ -1,12 +1,16 @@
 -- The code of operators that stop at the bounds of their type is right wherever it stands where a type has more than 32 bits.
-use Rattle.std.proofs.Common.{◌≡◌, ℕ, pos, ◌+◌, Bool, true, false, List, [], ◌∷◌, ◌++◌, Some, refl}
+use Rattle.std.proofs.Common.{◌≡◌, ℕ, pos, ◌+ℤ◌, ◌-ℤ◌, ◌*ℤ◌, ◌+◌, Bool, true, false, List, [], ◌∷◌, ◌++◌, Some, refl, sym, subst}
 use Rattle.std.specs.Prelude.{slice_get, if◌then◌else◌}
 use Rattle.zw_num.specs.Arithmetic.{least}
 use Rattle.zw_num.specs.declared.int_ty.IntTy.{IntTy}
-use Rattle.zw_num.specs.declared.op.TheConstants.{ADD_SAT, SUB_SAT, MUL_SAT}
+use Rattle.zw_num.specs.declared.operator.Operator.TheVariants as family
+use Rattle.zw_num.specs.declared.operator.Arithmetic.TheVariants as arithmetic_op
 use Rattle.zw_safety_narrow.proofs.NarrowTypes.{takes-long_const, takes-compare_long}
 use Rattle.zw_safety_narrow.proofs.SaturatingRight.{takes-select_long}
-use Rattle.zw_safety_narrow.specs.Operators.{IsRight, type_of}
+use Rattle.zw_safety_narrow.proofs.SizedTypes.{sized_saturates, stored_sized}
+use Rattle.zw_safety_narrow.specs.Operators.{IsRightOfTwo, type_of}
+use Rattle.zw_safety_narrow.specs.declared.setting.Setting.{Setting}
+use Rattle.zw_safety_narrow.proofs.NarrowRuns.{EndsOn}
 use Rattle.zw_safety_wide.proofs.WideSaturatingRuns.{wide_product_sat-ends}
 use Rattle.zw_safety_wide.proofs.WideSaturatingShort.{wide_sum_sat-ends, wide_difference_sat-ends}
 use Rattle.zw_safety_wide.specs.WideSaturatingCode.{greatest_long, bound, nearest, by_one_test, sum_nearest, difference_nearest, wide_sum_sat_code, wide_difference_sat_code, wide_product_sat_code}
@@ -132,23 +136,29 @@ difference_nearest-closed left right to s =
 
 -- ---- the operators
 
-pub wide_add_sat-right : (left right to : IntTy) (s : ℕ) → AreStored left right to → IsRight ADD_SAT left right to s (wide_sum_sat_code left right to s)
-wide_add_sat-right left right to s h = record {
-  ends = λ m v c a b os rest il ir scratch state. wide_sum_sat-ends m v c s left right to a b os rest h.left_stored h.right_stored h.to_stored il ir (scratch refl);
-  typed = λ x ts scratch state. takes-then (takes-spread x left right s ts (longs s x.locals (scratch refl))) (takes-sum_for (all_unsigned left right to) (all_signed left right to) x left right to s ts (longs s x.locals (scratch refl)));
-  closed = closed-then (spread-closed left right s) (sum_nearest-closed left right to s);
+pub wide_add_sat-right : (t : Setting) → AreStored t.left t.right t.to → IsRightOfTwo (family.Arithmetic arithmetic_op.AddSat) t (wide_sum_sat_code t.left t.right t.to t.scratch)
+wide_add_sat-right t h = record {
+  ends = λ m v c a b os rest il ir scratch state.
+      subst (λ r. EndsOn m v c t.scratch t.left t.right t.to a b os (wide_sum_sat_code t.left t.right t.to t.scratch) rest r) (sym (sized_saturates t.to (a +ℤ b) (stored_sized t.to h.to_stored)))
+      (wide_sum_sat-ends m v c t.scratch t.left t.right t.to a b os rest h.left_stored h.right_stored h.to_stored il ir (scratch refl));
+  typed = λ x ts scratch state. takes-then (takes-spread x t.left t.right t.scratch ts (longs t.scratch x.locals (scratch refl))) (takes-sum_for (all_unsigned t.left t.right t.to) (all_signed t.left t.right t.to) x t.left t.right t.to t.scratch ts (longs t.scratch x.locals (scratch refl)));
+  closed = closed-then (spread-closed t.left t.right t.scratch) (sum_nearest-closed t.left t.right t.to t.scratch);
 }
 
-pub wide_sub_sat-right : (left right to : IntTy) (s : ℕ) → AreStored left right to → IsRight SUB_SAT left right to s (wide_difference_sat_code left right to s)
-wide_sub_sat-right left right to s h = record {
-  ends = λ m v c a b os rest il ir scratch state. wide_difference_sat-ends m v c s left right to a b os rest h.left_stored h.right_stored h.to_stored il ir (scratch refl);
-  typed = λ x ts scratch state. takes-then (takes-spread x left right s ts (longs s x.locals (scratch refl))) (takes-difference_for (all_unsigned left right to) (all_signed left right to) x left right to s ts (longs s x.locals (scratch refl)));
-  closed = closed-then (spread-closed left right s) (difference_nearest-closed left right to s);
+pub wide_sub_sat-right : (t : Setting) → AreStored t.left t.right t.to → IsRightOfTwo (family.Arithmetic arithmetic_op.SubSat) t (wide_difference_sat_code t.left t.right t.to t.scratch)
+wide_sub_sat-right t h = record {
+  ends = λ m v c a b os rest il ir scratch state.
+      subst (λ r. EndsOn m v c t.scratch t.left t.right t.to a b os (wide_difference_sat_code t.left t.right t.to t.scratch) rest r) (sym (sized_saturates t.to (a -ℤ b) (stored_sized t.to h.to_stored)))
+      (wide_difference_sat-ends m v c t.scratch t.left t.right t.to a b os rest h.left_stored h.right_stored h.to_stored il ir (scratch refl));
+  typed = λ x ts scratch state. takes-then (takes-spread x t.left t.right t.scratch ts (longs t.scratch x.locals (scratch refl))) (takes-difference_for (all_unsigned t.left t.right t.to) (all_signed t.left t.right t.to) x t.left t.right t.to t.scratch ts (longs t.scratch x.locals (scratch refl)));
+  closed = closed-then (spread-closed t.left t.right t.scratch) (difference_nearest-closed t.left t.right t.to t.scratch);
 }
 
-pub wide_mul_sat-right : (left right to : IntTy) (s : ℕ) → AreStored left right to → IsRight MUL_SAT left right to s (wide_product_sat_code left right to s)
-wide_mul_sat-right left right to s h = record {
-  ends = λ m v c a b os rest il ir scratch state. wide_product_sat-ends m v c s left right to a b os rest h.left_stored h.right_stored h.to_stored il ir (scratch refl);
-  typed = λ x ts scratch state. takes-words (both_unsigned left right) x (product_words left right s) left right to s ts (longs s x.locals (scratch refl)) (takes-product_words x left right s ts (longs s x.locals (scratch refl)));
-  closed = closed-then (spread-closed left right s) (closed-then (product_words-closed left right s) (nearest-closed (both_unsigned left right) to s));
+pub wide_mul_sat-right : (t : Setting) → AreStored t.left t.right t.to → IsRightOfTwo (family.Arithmetic arithmetic_op.MulSat) t (wide_product_sat_code t.left t.right t.to t.scratch)
+wide_mul_sat-right t h = record {
+  ends = λ m v c a b os rest il ir scratch state.
+      subst (λ r. EndsOn m v c t.scratch t.left t.right t.to a b os (wide_product_sat_code t.left t.right t.to t.scratch) rest r) (sym (sized_saturates t.to (a *ℤ b) (stored_sized t.to h.to_stored)))
+      (wide_product_sat-ends m v c t.scratch t.left t.right t.to a b os rest h.left_stored h.right_stored h.to_stored il ir (scratch refl));
+  typed = λ x ts scratch state. takes-words (both_unsigned t.left t.right) x (product_words t.left t.right t.scratch) t.left t.right t.to t.scratch ts (longs t.scratch x.locals (scratch refl)) (takes-product_words x t.left t.right t.scratch ts (longs t.scratch x.locals (scratch refl)));
+  closed = closed-then (spread-closed t.left t.right t.scratch) (closed-then (product_words-closed t.left t.right t.scratch) (nearest-closed (both_unsigned t.left t.right) t.to t.scratch));
 }

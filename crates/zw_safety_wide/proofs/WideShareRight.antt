@@ -3,13 +3,15 @@ use Rattle.std.proofs.Common.{◌≡◌, ℕ, ℤ, pos, negsuc, ◌+◌, Bool, t
 use Rattle.std.specs.Prelude.{if◌then◌else◌}
 use Rattle.zw_num.specs.Arithmetic.{IsIn, least}
 use Rattle.zw_num.specs.declared.int_ty.IntTy.{IntTy}
-use Rattle.zw_num.specs.declared.op.TheConstants.{DIV, REM, DIV_TRUNC, REM_TRUNC, MOD, DIV_FLOOR, DIV_EXACT}
+use Rattle.zw_num.specs.declared.operator.Operator.TheVariants as family
+use Rattle.zw_num.specs.declared.operator.Division.TheVariants as division_op
 use Rattle.zw_safety_narrow.proofs.CheckedTypes.{takes-if_panics}
 use Rattle.zw_safety_narrow.proofs.NarrowTypes.{takes-long, takes-word, takes-long_const, takes-compare_long}
 use Rattle.zw_safety_narrow.proofs.SaturatingRight.{takes-select_long, takes-tee_long}
 use Rattle.zw_safety_narrow.specs.Checked.{PanicStateIsTyped}
 use Rattle.zw_safety_narrow.specs.Code.{if_panics}
-use Rattle.zw_safety_narrow.specs.Operators.{IsRight, type_of}
+use Rattle.zw_safety_narrow.specs.Operators.{IsRightOfTwo, type_of}
+use Rattle.zw_safety_narrow.specs.declared.setting.Setting.{Setting}
 use Rattle.zw_safety_wide.proofs.WideShareRuns.{AreShared, wide_quotient-ends, wide_rest-ends, wide_modulo-ends, wide_floor-ends, wide_exact_quotient-ends}
 use Rattle.zw_safety_wide.specs.WideSignedCode.{are_wide_shares, quotient_of, remainder_of, lacking, lacking_tested, shared, wide_quotient_code, wide_rest_code, across, floored_rest, floored_quotient, wide_modulo_code, wide_floor_code, left_tested, wide_exact_quotient_code}
 use Rattle.zw_safety_words.proofs.WideBitRight.{AreStored, takes-settled, takes-both_got}
@@ -150,51 +152,51 @@ divided-closed left right s js h = closed-then (spread-closed left right s) (clo
 shared_from : (left right to : IntTy) (a b : ℤ) → AreStored left right to → are_wide_shares left right to ≡ true → IsIn left a → IsIn right b → AreShared left right to a b
 shared_from left right to a b h e il ir = record { left_stored = h.left_stored; right_stored = h.right_stored; to_stored = h.to_stored; left_in = il; right_in = ir; served = e }
 
-pub wide_div-right : (left right to : IntTy) (s : ℕ) → AreStored left right to → are_wide_shares left right to ≡ true → IsRight DIV left right to s (wide_quotient_code left right to s)
-wide_div-right left right to s h e = record {
-  ends = λ m v c a b os rest il ir scratch state. wide_quotient-ends m v c s left right to a b os rest (shared_from left right to a b h e il ir) (scratch refl) state;
-  typed = λ x ts scratch state. takes-quotient x left right to s ts (longs s x.locals (scratch refl)) state;
-  closed = divided-closed left right s (lacking_tested left right to s ++ (shared (quotient_of left right) s ++ settled to)) (closed-then (lacking_for-closed (both_unsigned left right) to s) (closed-then (shared-closed (quotient_of left right) s) (settled-closed to)));
+pub wide_div-right : (t : Setting) → AreStored t.left t.right t.to → are_wide_shares t.left t.right t.to ≡ true → IsRightOfTwo (family.Division division_op.Div) t (wide_quotient_code t.left t.right t.to t.scratch)
+wide_div-right t h e = record {
+  ends = λ m v c a b os rest il ir scratch state. wide_quotient-ends m v c t.scratch t.left t.right t.to a b os rest (shared_from t.left t.right t.to a b h e il ir) (scratch refl) state;
+  typed = λ x ts scratch state. takes-quotient x t.left t.right t.to t.scratch ts (longs t.scratch x.locals (scratch refl)) state;
+  closed = divided-closed t.left t.right t.scratch (lacking_tested t.left t.right t.to t.scratch ++ (shared (quotient_of t.left t.right) t.scratch ++ settled t.to)) (closed-then (lacking_for-closed (both_unsigned t.left t.right) t.to t.scratch) (closed-then (shared-closed (quotient_of t.left t.right) t.scratch) (settled-closed t.to)));
 }
 
-pub wide_div_trunc-right : (left right to : IntTy) (s : ℕ) → AreStored left right to → are_wide_shares left right to ≡ true → IsRight DIV_TRUNC left right to s (wide_quotient_code left right to s)
-wide_div_trunc-right left right to s h e = record {
-  ends = λ m v c a b os rest il ir scratch state. wide_quotient-ends m v c s left right to a b os rest (shared_from left right to a b h e il ir) (scratch refl) state;
-  typed = λ x ts scratch state. takes-quotient x left right to s ts (longs s x.locals (scratch refl)) state;
-  closed = divided-closed left right s (lacking_tested left right to s ++ (shared (quotient_of left right) s ++ settled to)) (closed-then (lacking_for-closed (both_unsigned left right) to s) (closed-then (shared-closed (quotient_of left right) s) (settled-closed to)));
+pub wide_div_trunc-right : (t : Setting) → AreStored t.left t.right t.to → are_wide_shares t.left t.right t.to ≡ true → IsRightOfTwo (family.Division division_op.DivTrunc) t (wide_quotient_code t.left t.right t.to t.scratch)
+wide_div_trunc-right t h e = record {
+  ends = λ m v c a b os rest il ir scratch state. wide_quotient-ends m v c t.scratch t.left t.right t.to a b os rest (shared_from t.left t.right t.to a b h e il ir) (scratch refl) state;
+  typed = λ x ts scratch state. takes-quotient x t.left t.right t.to t.scratch ts (longs t.scratch x.locals (scratch refl)) state;
+  closed = divided-closed t.left t.right t.scratch (lacking_tested t.left t.right t.to t.scratch ++ (shared (quotient_of t.left t.right) t.scratch ++ settled t.to)) (closed-then (lacking_for-closed (both_unsigned t.left t.right) t.to t.scratch) (closed-then (shared-closed (quotient_of t.left t.right) t.scratch) (settled-closed t.to)));
 }
 
-pub wide_rem-right : (left right to : IntTy) (s : ℕ) → AreStored left right to → are_wide_shares left right to ≡ true → IsRight REM left right to s (wide_rest_code left right to s)
-wide_rem-right left right to s h e = record {
-  ends = λ m v c a b os rest il ir scratch state. wide_rest-ends m v c s left right to a b os rest (shared_from left right to a b h e il ir) (scratch refl) state;
-  typed = λ x ts scratch state. takes-rest x left right to s ts (longs s x.locals (scratch refl)) state;
-  closed = divided-closed left right s (shared (remainder_of left right) s ++ settled to) (closed-then (shared-closed (remainder_of left right) s) (settled-closed to));
+pub wide_rem-right : (t : Setting) → AreStored t.left t.right t.to → are_wide_shares t.left t.right t.to ≡ true → IsRightOfTwo (family.Division division_op.Rem) t (wide_rest_code t.left t.right t.to t.scratch)
+wide_rem-right t h e = record {
+  ends = λ m v c a b os rest il ir scratch state. wide_rest-ends m v c t.scratch t.left t.right t.to a b os rest (shared_from t.left t.right t.to a b h e il ir) (scratch refl) state;
+  typed = λ x ts scratch state. takes-rest x t.left t.right t.to t.scratch ts (longs t.scratch x.locals (scratch refl)) state;
+  closed = divided-closed t.left t.right t.scratch (shared (remainder_of t.left t.right) t.scratch ++ settled t.to) (closed-then (shared-closed (remainder_of t.left t.right) t.scratch) (settled-closed t.to));
 }
 
-pub wide_rem_trunc-right : (left right to : IntTy) (s : ℕ) → AreStored left right to → are_wide_shares left right to ≡ true → IsRight REM_TRUNC left right to s (wide_rest_code left right to s)
-wide_rem_trunc-right left right to s h e = record {
-  ends = λ m v c a b os rest il ir scratch state. wide_rest-ends m v c s left right to a b os rest (shared_from left right to a b h e il ir) (scratch refl) state;
-  typed = λ x ts scratch state. takes-rest x left right to s ts (longs s x.locals (scratch refl)) state;
-  closed = divided-closed left right s (shared (remainder_of left right) s ++ settled to) (closed-then (shared-closed (remainder_of left right) s) (settled-closed to));
+pub wide_rem_trunc-right : (t : Setting) → AreStored t.left t.right t.to → are_wide_shares t.left t.right t.to ≡ true → IsRightOfTwo (family.Division division_op.RemTrunc) t (wide_rest_code t.left t.right t.to t.scratch)
+wide_rem_trunc-right t h e = record {
+  ends = λ m v c a b os rest il ir scratch state. wide_rest-ends m v c t.scratch t.left t.right t.to a b os rest (shared_from t.left t.right t.to a b h e il ir) (scratch refl) state;
+  typed = λ x ts scratch state. takes-rest x t.left t.right t.to t.scratch ts (longs t.scratch x.locals (scratch refl)) state;
+  closed = divided-closed t.left t.right t.scratch (shared (remainder_of t.left t.right) t.scratch ++ settled t.to) (closed-then (shared-closed (remainder_of t.left t.right) t.scratch) (settled-closed t.to));
 }
 
-pub wide_mod-right : (left right to : IntTy) (s : ℕ) → AreStored left right to → are_wide_shares left right to ≡ true → IsRight MOD left right to s (wide_modulo_code left right to s)
-wide_mod-right left right to s h e = record {
-  ends = λ m v c a b os rest il ir scratch state. wide_modulo-ends m v c s left right to a b os rest (shared_from left right to a b h e il ir) (scratch refl) state;
-  typed = λ x ts scratch state. takes-modulo x left right to s ts (longs s x.locals (scratch refl)) state;
-  closed = divided-closed left right s ((if both_unsigned left right then shared RemU s else floored_rest s) ++ settled to) (closed-then (modulo_for-closed (both_unsigned left right) s) (settled-closed to));
+pub wide_mod-right : (t : Setting) → AreStored t.left t.right t.to → are_wide_shares t.left t.right t.to ≡ true → IsRightOfTwo (family.Division division_op.Mod) t (wide_modulo_code t.left t.right t.to t.scratch)
+wide_mod-right t h e = record {
+  ends = λ m v c a b os rest il ir scratch state. wide_modulo-ends m v c t.scratch t.left t.right t.to a b os rest (shared_from t.left t.right t.to a b h e il ir) (scratch refl) state;
+  typed = λ x ts scratch state. takes-modulo x t.left t.right t.to t.scratch ts (longs t.scratch x.locals (scratch refl)) state;
+  closed = divided-closed t.left t.right t.scratch ((if both_unsigned t.left t.right then shared RemU t.scratch else floored_rest t.scratch) ++ settled t.to) (closed-then (modulo_for-closed (both_unsigned t.left t.right) t.scratch) (settled-closed t.to));
 }
 
-pub wide_div_floor-right : (left right to : IntTy) (s : ℕ) → AreStored left right to → are_wide_shares left right to ≡ true → IsRight DIV_FLOOR left right to s (wide_floor_code left right to s)
-wide_div_floor-right left right to s h e = record {
-  ends = λ m v c a b os rest il ir scratch state. wide_floor-ends m v c s left right to a b os rest (shared_from left right to a b h e il ir) (scratch refl) state;
-  typed = λ x ts scratch state. takes-floor x left right to s ts (longs s x.locals (scratch refl)) state;
-  closed = divided-closed left right s (lacking_tested left right to s ++ ((if both_unsigned left right then shared DivU s else floored_quotient s) ++ settled to)) (closed-then (lacking_for-closed (both_unsigned left right) to s) (closed-then (floor_for-closed (both_unsigned left right) s) (settled-closed to)));
+pub wide_div_floor-right : (t : Setting) → AreStored t.left t.right t.to → are_wide_shares t.left t.right t.to ≡ true → IsRightOfTwo (family.Division division_op.DivFloor) t (wide_floor_code t.left t.right t.to t.scratch)
+wide_div_floor-right t h e = record {
+  ends = λ m v c a b os rest il ir scratch state. wide_floor-ends m v c t.scratch t.left t.right t.to a b os rest (shared_from t.left t.right t.to a b h e il ir) (scratch refl) state;
+  typed = λ x ts scratch state. takes-floor x t.left t.right t.to t.scratch ts (longs t.scratch x.locals (scratch refl)) state;
+  closed = divided-closed t.left t.right t.scratch (lacking_tested t.left t.right t.to t.scratch ++ ((if both_unsigned t.left t.right then shared DivU t.scratch else floored_quotient t.scratch) ++ settled t.to)) (closed-then (lacking_for-closed (both_unsigned t.left t.right) t.to t.scratch) (closed-then (floor_for-closed (both_unsigned t.left t.right) t.scratch) (settled-closed t.to)));
 }
 
-pub wide_div_exact-right : (left right to : IntTy) (s : ℕ) → AreStored left right to → are_wide_shares left right to ≡ true → IsRight DIV_EXACT left right to s (wide_exact_quotient_code left right to s)
-wide_div_exact-right left right to s h e = record {
-  ends = λ m v c a b os rest il ir scratch state. wide_exact_quotient-ends m v c s left right to a b os rest (shared_from left right to a b h e il ir) (scratch refl) state;
-  typed = λ x ts scratch state. takes-exact x left right to s ts (longs s x.locals (scratch refl)) state;
-  closed = divided-closed left right s (lacking_tested left right to s ++ (left_tested (remainder_of left right) s ++ (shared (quotient_of left right) s ++ settled to))) (closed-then (lacking_for-closed (both_unsigned left right) to s) (closed-then (left-closed (remainder_of left right) s) (closed-then (shared-closed (quotient_of left right) s) (settled-closed to))));
+pub wide_div_exact-right : (t : Setting) → AreStored t.left t.right t.to → are_wide_shares t.left t.right t.to ≡ true → IsRightOfTwo (family.Division division_op.DivExact) t (wide_exact_quotient_code t.left t.right t.to t.scratch)
+wide_div_exact-right t h e = record {
+  ends = λ m v c a b os rest il ir scratch state. wide_exact_quotient-ends m v c t.scratch t.left t.right t.to a b os rest (shared_from t.left t.right t.to a b h e il ir) (scratch refl) state;
+  typed = λ x ts scratch state. takes-exact x t.left t.right t.to t.scratch ts (longs t.scratch x.locals (scratch refl)) state;
+  closed = divided-closed t.left t.right t.scratch (lacking_tested t.left t.right t.to t.scratch ++ (left_tested (remainder_of t.left t.right) t.scratch ++ (shared (quotient_of t.left t.right) t.scratch ++ settled t.to))) (closed-then (lacking_for-closed (both_unsigned t.left t.right) t.to t.scratch) (closed-then (left-closed (remainder_of t.left t.right) t.scratch) (closed-then (shared-closed (quotient_of t.left t.right) t.scratch) (settled-closed t.to))));
 }

@@ -1,20 +1,24 @@
 -- The code of exact shifts, and of the shift that stops at the bounds of its type, is right wherever it stands where a type has more than
 -- 32 bits.
-use Rattle.std.proofs.Common.{◌≡◌, ℕ, pos, ◌+◌, Bool, true, false, List, [], ◌∷◌, refl}
+use Rattle.std.proofs.Common.{◌≡◌, ℕ, pos, ◌*ℤ◌, ◌+◌, Bool, true, false, List, [], ◌∷◌, refl, sym, subst}
 use Rattle.std.specs.Prelude.{nat_lt, if◌then◌else◌}
-use Rattle.zw_num.specs.Arithmetic.{width}
+use Rattle.zw_num.specs.Arithmetic.{width, power}
 use Rattle.zw_num.specs.declared.int_ty.IntTy.{IntTy}
-use Rattle.zw_num.specs.declared.op.TheConstants.{SHL_EXACT, SHR_EXACT, SHL_SAT}
+use Rattle.zw_num.specs.declared.operator.Operator.TheVariants as family
+use Rattle.zw_num.specs.declared.operator.Shift.TheVariants as shift_op
 use Rattle.zw_safety_narrow.proofs.CheckedTypes.{takes-if_panics}
 use Rattle.zw_safety_narrow.proofs.NarrowTypes.{takes-long, takes-word, takes-long_const, takes-compare_long}
 use Rattle.zw_safety_narrow.proofs.SaturatingRight.{takes-select_long, takes-tee_long}
+use Rattle.zw_safety_narrow.proofs.SizedTypes.{sized_saturates, stored_sized}
 use Rattle.zw_safety_narrow.specs.CastCode.{holds}
 use Rattle.zw_safety_narrow.specs.Checked.{PanicStateIsTyped}
 use Rattle.zw_safety_narrow.specs.CompareCode.{is_unsigned}
-use Rattle.zw_safety_narrow.specs.Operators.{IsRight, type_of}
+use Rattle.zw_safety_narrow.specs.Operators.{IsRightOfTwo, type_of}
+use Rattle.zw_safety_narrow.specs.declared.setting.Setting.{Setting}
 use Rattle.zw_safety_narrow.specs.ShiftCode.{right_operator}
 use Rattle.zw_safety_wide.proofs.WideSaturatingRight.{takes-bound, bound-closed, select-closed}
 use Rattle.zw_safety_wide.proofs.WideShareRight.{takes-shared, shared-closed}
+use Rattle.zw_safety_narrow.proofs.NarrowRuns.{EndsOn}
 use Rattle.zw_safety_wide.proofs.WideShiftRuns.{wide_left_exact-ends, wide_right_exact-ends, wide_left_sat-ends}
 use Rattle.zw_safety_wide.specs.WideShiftCode.{moved_left, unlike, lost_tested, low_settled, wide_left_exact_code, wide_right_exact_code, wide_left_sat_code}
 use Rattle.zw_safety_words.proofs.WideBitRight.{AreStored, takes-settled, takes-far}
@@ -134,23 +138,25 @@ left_sat-closed left right to s =
 
 -- ---- the operators
 
-pub wide_shl_exact-right : (left right to : IntTy) (s : ℕ) → AreStored left right to → holds to left ≡ true → IsRight SHL_EXACT left right to s (wide_left_exact_code left right to s)
-wide_shl_exact-right left right to s h e = record {
-  ends = λ m v c a b os rest il ir scratch state. wide_left_exact-ends m v c s left right to a b os rest h.left_stored h.right_stored h.to_stored e il ir (scratch refl) state;
-  typed = λ x ts scratch state. takes-left_exact x left right to s ts (longs s x.locals (scratch refl)) state;
-  closed = left_exact-closed left right to s;
+pub wide_shl_exact-right : (t : Setting) → AreStored t.left t.right t.to → holds t.to t.left ≡ true → IsRightOfTwo (family.Shift shift_op.ShlExact) t (wide_left_exact_code t.left t.right t.to t.scratch)
+wide_shl_exact-right t h e = record {
+  ends = λ m v c a b os rest il ir scratch state. wide_left_exact-ends m v c t.scratch t.left t.right t.to a b os rest h.left_stored h.right_stored h.to_stored e il ir (scratch refl) state;
+  typed = λ x ts scratch state. takes-left_exact x t.left t.right t.to t.scratch ts (longs t.scratch x.locals (scratch refl)) state;
+  closed = left_exact-closed t.left t.right t.to t.scratch;
 }
 
-pub wide_shr_exact-right : (left right to : IntTy) (s : ℕ) → AreStored left right to → IsRight SHR_EXACT left right to s (wide_right_exact_code left right to s)
-wide_shr_exact-right left right to s h = record {
-  ends = λ m v c a b os rest il ir scratch state. wide_right_exact-ends m v c s left right to a b os rest h.left_stored h.right_stored h.to_stored il ir (scratch refl) state;
-  typed = λ x ts scratch state. takes-right_exact x left right to s ts (longs s x.locals (scratch refl)) state;
-  closed = right_exact-closed left right to s;
+pub wide_shr_exact-right : (t : Setting) → AreStored t.left t.right t.to → IsRightOfTwo (family.Shift shift_op.ShrExact) t (wide_right_exact_code t.left t.right t.to t.scratch)
+wide_shr_exact-right t h = record {
+  ends = λ m v c a b os rest il ir scratch state. wide_right_exact-ends m v c t.scratch t.left t.right t.to a b os rest h.left_stored h.right_stored h.to_stored il ir (scratch refl) state;
+  typed = λ x ts scratch state. takes-right_exact x t.left t.right t.to t.scratch ts (longs t.scratch x.locals (scratch refl)) state;
+  closed = right_exact-closed t.left t.right t.to t.scratch;
 }
 
-pub wide_shl_sat-right : (left right to : IntTy) (s : ℕ) → AreStored left right to → holds to left ≡ true → is_unsigned right ≡ true → IsRight SHL_SAT left right to s (wide_left_sat_code left right to s)
-wide_shl_sat-right left right to s h e u = record {
-  ends = λ m v c a b os rest il ir scratch state. wide_left_sat-ends m v c s left right to a b os rest h.left_stored h.right_stored h.to_stored e u il ir (scratch refl);
-  typed = λ x ts scratch state. takes-left_sat x left right to s ts (longs s x.locals (scratch refl));
-  closed = left_sat-closed left right to s;
+pub wide_shl_sat-right : (t : Setting) → AreStored t.left t.right t.to → holds t.to t.left ≡ true → is_unsigned t.right ≡ true → IsRightOfTwo (family.Shift shift_op.ShlSat) t (wide_left_sat_code t.left t.right t.to t.scratch)
+wide_shl_sat-right t h e u = record {
+  ends = λ m v c a b os rest il ir scratch state.
+      subst (λ r. EndsOn m v c t.scratch t.left t.right t.to a b os (wide_left_sat_code t.left t.right t.to t.scratch) rest r) (sym (sized_saturates t.to (a *ℤ power b) (stored_sized t.to h.to_stored)))
+      (wide_left_sat-ends m v c t.scratch t.left t.right t.to a b os rest h.left_stored h.right_stored h.to_stored e u il ir (scratch refl));
+  typed = λ x ts scratch state. takes-left_sat x t.left t.right t.to t.scratch ts (longs t.scratch x.locals (scratch refl));
+  closed = left_sat-closed t.left t.right t.to t.scratch;
 }

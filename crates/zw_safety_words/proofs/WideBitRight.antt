@@ -4,19 +4,30 @@ use Rattle.std.proofs.Common.{◌≡◌, ℕ, ℤ, pos, negsuc, ◌+◌, Bool, t
 use Rattle.std.specs.Prelude.{int_lt, int_le, if◌then◌else◌}
 use Rattle.std.specs.Int.{w64, int_min, int_max}
 use Rattle.std.specs.Ordering.{int_eq}
+use Rattle.zw_num.specs.Meanings.{compared, number_of_truth}
 use Rattle.zw_num.specs.Arithmetic.{width, bits_and, bits_or, bits_xor, bits_not}
 use Rattle.zw_num.specs.declared.int_ty.IntTy.{IntTy}
-use Rattle.zw_num.specs.declared.op.TheConstants.{BIT_AND, BIT_OR, BIT_XOR, EQUAL, NOT_EQUAL, LESS, LESS_OR_EQUAL, GREATER, GREATER_OR_EQUAL, MIN, MAX, SHL, SHR, NEG, BIT_NOT, NEG_WRAP, AS, INT_FROM_BOOL, TRUNCATE, BIT_CAST}
+use Rattle.zw_num.specs.declared.operator.Operator.TheVariants as family
+use Rattle.zw_num.specs.declared.operator.Bitwise.TheVariants as bitwise_op
+use Rattle.zw_num.specs.declared.operator.Cast.TheVariants as cast_op
+use Rattle.zw_num.specs.declared.operator.Comparison.{Comparison as Compares}
+use Rattle.zw_num.specs.declared.operator.Comparison.TheVariants as comparison_op
+use Rattle.zw_num.specs.declared.operator.Extreme.TheVariants as extreme_op
+use Rattle.zw_num.specs.declared.operator.Shift.TheVariants as shift_op
+use Rattle.zw_num.specs.declared.operator.Unary.TheVariants as unary_op
 use Rattle.zw_safety_narrow.proofs.BitRuns.{and_bits, or_bits, xor_bits}
 use Rattle.zw_safety_narrow.proofs.CheckedTypes.{takes-if_panics}
 use Rattle.zw_safety_narrow.proofs.NarrowTypes.{takes-long, takes-long_const, takes-compare_long}
+use Rattle.zw_safety_narrow.proofs.CastRuns.{EndsOnOne}
 use Rattle.zw_safety_narrow.proofs.NarrowRuns.{EndsOn}
 use Rattle.zw_safety_narrow.proofs.OrderRight.{takes-select}
 use Rattle.zw_safety_narrow.proofs.Orders.{equal as equals, not_equal as differs, less as lies_below, less_or_equal as lies_not_above, greater as lies_above, greater_or_equal as lies_not_below, lesser}
 use Rattle.zw_safety_narrow.proofs.SaturatingRight.{takes-select_long}
+use Rattle.zw_safety_narrow.proofs.SizedTypes.{sized_wraps, stored_sized}
 use Rattle.zw_safety_narrow.specs.CastCode.{holds}
 use Rattle.zw_safety_narrow.specs.Checked.{ScratchIsTyped, PanicStateIsTyped}
-use Rattle.zw_safety_narrow.specs.Operators.{IsStored, IsRight, IsRightOnOne, answer_of, fills_word, truth, type_of, writes_locals}
+use Rattle.zw_safety_narrow.specs.Operators.{IsStored, IsRightOfTwo, IsRightOfOne, fills_word, type_of}
+use Rattle.zw_safety_narrow.specs.declared.setting.Setting.{Setting}
 use Rattle.zw_safety_narrow.specs.ShiftCode.{right_operator}
 use Rattle.zw_safety_words.proofs.WideBitRuns.{wide_word-ends, wide_left-ends, wide_right-ends, wide_minus_one-ends, turned_bits, negated_bits, wide_same-ends, wide_truncated-ends, wide_opposite-ends}
 use Rattle.zw_safety_words.proofs.WideClosed.{closed-then, either_closed, widened-closed, settled-closed, left_widened-closed, spread-closed, fitted-for as fitted-closed, long-closed, difference_test-closed, tested-closed}
@@ -92,39 +103,39 @@ pub record AreStored (left right to : IntTy) : Type 0 where
   pub right_stored : IsStored right
   pub to_stored : IsStored to
 
-pub wide_and-right : (left right to : IntTy) (s : ℕ) → AreStored left right to → IsRight BIT_AND left right to s (wide_word_code And left right to s)
-wide_and-right left right to s h = record {
-  ends = λ m v c a b os rest il ir scratch state. wide_word-ends m v c And s left right to a b (bits_and a b) os rest h.left_stored h.right_stored il ir (scratch refl) (ap (λ n. Gives n) (and_bits w64 a b));
-  typed = λ x ts scratch state. takes-word x And left right to s ts (scratch refl);
-  closed = word-closed And left right to s;
+pub wide_and-right : (t : Setting) → AreStored t.left t.right t.to → IsRightOfTwo (family.Bitwise bitwise_op.And) t (wide_word_code And t.left t.right t.to t.scratch)
+wide_and-right t h = record {
+  ends = λ m v c a b os rest il ir scratch state. wide_word-ends m v c And t.scratch t.left t.right t.to a b (bits_and a b) os rest h.left_stored h.right_stored il ir (scratch refl) (ap (λ n. Gives n) (and_bits w64 a b));
+  typed = λ x ts scratch state. takes-word x And t.left t.right t.to t.scratch ts (scratch refl);
+  closed = word-closed And t.left t.right t.to t.scratch;
 }
 
-pub wide_or-right : (left right to : IntTy) (s : ℕ) → AreStored left right to → IsRight BIT_OR left right to s (wide_word_code Or left right to s)
-wide_or-right left right to s h = record {
-  ends = λ m v c a b os rest il ir scratch state. wide_word-ends m v c Or s left right to a b (bits_or a b) os rest h.left_stored h.right_stored il ir (scratch refl) (ap (λ n. Gives n) (or_bits w64 a b));
-  typed = λ x ts scratch state. takes-word x Or left right to s ts (scratch refl);
-  closed = word-closed Or left right to s;
+pub wide_or-right : (t : Setting) → AreStored t.left t.right t.to → IsRightOfTwo (family.Bitwise bitwise_op.Or) t (wide_word_code Or t.left t.right t.to t.scratch)
+wide_or-right t h = record {
+  ends = λ m v c a b os rest il ir scratch state. wide_word-ends m v c Or t.scratch t.left t.right t.to a b (bits_or a b) os rest h.left_stored h.right_stored il ir (scratch refl) (ap (λ n. Gives n) (or_bits w64 a b));
+  typed = λ x ts scratch state. takes-word x Or t.left t.right t.to t.scratch ts (scratch refl);
+  closed = word-closed Or t.left t.right t.to t.scratch;
 }
 
-pub wide_xor-right : (left right to : IntTy) (s : ℕ) → AreStored left right to → IsRight BIT_XOR left right to s (wide_word_code Xor left right to s)
-wide_xor-right left right to s h = record {
-  ends = λ m v c a b os rest il ir scratch state. wide_word-ends m v c Xor s left right to a b (bits_xor a b) os rest h.left_stored h.right_stored il ir (scratch refl) (ap (λ n. Gives n) (xor_bits w64 a b));
-  typed = λ x ts scratch state. takes-word x Xor left right to s ts (scratch refl);
-  closed = word-closed Xor left right to s;
+pub wide_xor-right : (t : Setting) → AreStored t.left t.right t.to → IsRightOfTwo (family.Bitwise bitwise_op.Xor) t (wide_word_code Xor t.left t.right t.to t.scratch)
+wide_xor-right t h = record {
+  ends = λ m v c a b os rest il ir scratch state. wide_word-ends m v c Xor t.scratch t.left t.right t.to a b (bits_xor a b) os rest h.left_stored h.right_stored il ir (scratch refl) (ap (λ n. Gives n) (xor_bits w64 a b));
+  typed = λ x ts scratch state. takes-word x Xor t.left t.right t.to t.scratch ts (scratch refl);
+  closed = word-closed Xor t.left t.right t.to t.scratch;
 }
 
-pub wide_shl-right : (left right to : IntTy) (s : ℕ) → AreStored left right to → IsRight SHL left right to s (wide_left_code left right to s)
-wide_shl-right left right to s h = record {
-  ends = λ m v c a b os rest il ir scratch state. wide_left-ends m v c s left right to a b os rest h.left_stored h.right_stored h.to_stored il ir (scratch refl) state;
-  typed = λ x ts scratch state. takes-then (takes-amount x left right (width to) s ts (longs s x.locals (scratch refl)) state) (takes-then (takes-long x Shl ts) (takes-wide_fitted x to ts));
-  closed = closed-then (amount_for-closed (are_wide_amounts right (width to)) left right (width to) s) (closed-then (long-closed Shl) (fitted-closed (fills_word to) to));
+pub wide_shl-right : (t : Setting) → AreStored t.left t.right t.to → IsRightOfTwo (family.Shift shift_op.Shl) t (wide_left_code t.left t.right t.to t.scratch)
+wide_shl-right t h = record {
+  ends = λ m v c a b os rest il ir scratch state. wide_left-ends m v c t.scratch t.left t.right t.to a b os rest h.left_stored h.right_stored h.to_stored il ir (scratch refl) state;
+  typed = λ x ts scratch state. takes-then (takes-amount x t.left t.right (width t.to) t.scratch ts (longs t.scratch x.locals (scratch refl)) state) (takes-then (takes-long x Shl ts) (takes-wide_fitted x t.to ts));
+  closed = closed-then (amount_for-closed (are_wide_amounts t.right (width t.to)) t.left t.right (width t.to) t.scratch) (closed-then (long-closed Shl) (fitted-closed (fills_word t.to) t.to));
 }
 
-pub wide_shr-right : (left right to : IntTy) (s : ℕ) → AreStored left right to → IsRight SHR left right to s (wide_right_code left right to s)
-wide_shr-right left right to s h = record {
-  ends = λ m v c a b os rest il ir scratch state. wide_right-ends m v c s left right to a b os rest h.left_stored h.right_stored h.to_stored il ir (scratch refl) state;
-  typed = λ x ts scratch state. takes-then (takes-amount x left right (width to) s ts (longs s x.locals (scratch refl)) state) (takes-then (takes-long x (right_operator left) ts) (takes-settled x to ts));
-  closed = closed-then (amount_for-closed (are_wide_amounts right (width to)) left right (width to) s) (closed-then (long-closed (right_operator left)) (settled-closed to));
+pub wide_shr-right : (t : Setting) → AreStored t.left t.right t.to → IsRightOfTwo (family.Shift shift_op.Shr) t (wide_right_code t.left t.right t.to t.scratch)
+wide_shr-right t h = record {
+  ends = λ m v c a b os rest il ir scratch state. wide_right-ends m v c t.scratch t.left t.right t.to a b os rest h.left_stored h.right_stored h.to_stored il ir (scratch refl) state;
+  typed = λ x ts scratch state. takes-then (takes-amount x t.left t.right (width t.to) t.scratch ts (longs t.scratch x.locals (scratch refl)) state) (takes-then (takes-long x (right_operator t.left) ts) (takes-settled x t.to ts));
+  closed = closed-then (amount_for-closed (are_wide_amounts t.right (width t.to)) t.left t.right (width t.to) t.scratch) (closed-then (long-closed (right_operator t.left)) (settled-closed t.to));
 }
 
 -- ---- comparisons
@@ -184,13 +195,13 @@ comparison-closed o left right to s =
     (closed-then (spread-closed left right s) (closed-then (both_got-closed s) (mixed-closed o left s))))
     (truth-closed (fills_word to))
 
-compared-right : (op : ℕ) (o : Compared) (test : ℤ → ℤ → Bool) (left right to : IntTy) (s : ℕ) → AreStored left right to → IsOf o test → (writes_locals op left right to ≡ true) → ((a b : ℤ) → answer_of op to a b ≡ Ok (truth (test a b))) → IsRight op left right to s (wide_comparison_code o left right to s)
-compared-right op o test left right to s h is writes answers = record {
+compared-right : (op : Compares) (o : Compared) (test : ℤ → ℤ → Bool) (t : Setting) → AreStored t.left t.right t.to → IsOf o test → ((a b : ℤ) → compared op a b ≡ test a b) → IsRightOfTwo (family.Comparison op) t (wide_comparison_code o t.left t.right t.to t.scratch)
+compared-right op o test t h is same = record {
   ends = λ m v c a b os rest il ir scratch state.
-      subst (λ r. EndsOn m v c s left right to a b os (wide_comparison_code o left right to s) rest r) (sym (answers a b))
-      (wide_comparison-ends m v c o test s left right to a b os rest is h.left_stored h.right_stored il ir (scratch writes));
-  typed = λ x ts scratch state. takes-comparison x o left right to s ts (scratch writes);
-  closed = comparison-closed o left right to s;
+      subst (λ r. EndsOn m v c t.scratch t.left t.right t.to a b os (wide_comparison_code o t.left t.right t.to t.scratch) rest (Ok (number_of_truth r))) (sym (same a b))
+      (wide_comparison-ends m v c o test t.scratch t.left t.right t.to a b os rest is h.left_stored h.right_stored il ir (scratch refl));
+  typed = λ x ts scratch state. takes-comparison x o t.left t.right t.to t.scratch ts (scratch refl);
+  closed = comparison-closed o t.left t.right t.to t.scratch;
 }
 
 is_equal : IsOf equal (λ a b. int_eq a b)
@@ -211,23 +222,23 @@ is_greater = record { relation = lies_above; left_below = λ n y. refl; right_be
 is_greater_or_equal : IsOf greater_or_equal (λ a b. int_le b a)
 is_greater_or_equal = record { relation = lies_not_below; left_below = λ n y. refl; right_below = λ x n. refl }
 
-pub wide_equal-right : (left right to : IntTy) (s : ℕ) → AreStored left right to → IsRight EQUAL left right to s (wide_comparison_code equal left right to s)
-wide_equal-right left right to s h = compared-right EQUAL equal (λ a b. int_eq a b) left right to s h is_equal refl (λ a b. refl)
+pub wide_equal-right : (t : Setting) → AreStored t.left t.right t.to → IsRightOfTwo (family.Comparison comparison_op.Equal) t (wide_comparison_code equal t.left t.right t.to t.scratch)
+wide_equal-right t h = compared-right comparison_op.Equal equal (λ a b. int_eq a b) t h is_equal (λ a b. refl)
 
-pub wide_not_equal-right : (left right to : IntTy) (s : ℕ) → AreStored left right to → IsRight NOT_EQUAL left right to s (wide_comparison_code not_equal left right to s)
-wide_not_equal-right left right to s h = compared-right NOT_EQUAL not_equal (λ a b. not (int_eq a b)) left right to s h is_not_equal refl (λ a b. refl)
+pub wide_not_equal-right : (t : Setting) → AreStored t.left t.right t.to → IsRightOfTwo (family.Comparison comparison_op.NotEqual) t (wide_comparison_code not_equal t.left t.right t.to t.scratch)
+wide_not_equal-right t h = compared-right comparison_op.NotEqual not_equal (λ a b. not (int_eq a b)) t h is_not_equal (λ a b. refl)
 
-pub wide_less-right : (left right to : IntTy) (s : ℕ) → AreStored left right to → IsRight LESS left right to s (wide_comparison_code less left right to s)
-wide_less-right left right to s h = compared-right LESS less (λ a b. int_lt a b) left right to s h is_less refl (λ a b. refl)
+pub wide_less-right : (t : Setting) → AreStored t.left t.right t.to → IsRightOfTwo (family.Comparison comparison_op.Less) t (wide_comparison_code less t.left t.right t.to t.scratch)
+wide_less-right t h = compared-right comparison_op.Less less (λ a b. int_lt a b) t h is_less (λ a b. refl)
 
-pub wide_less_or_equal-right : (left right to : IntTy) (s : ℕ) → AreStored left right to → IsRight LESS_OR_EQUAL left right to s (wide_comparison_code less_or_equal left right to s)
-wide_less_or_equal-right left right to s h = compared-right LESS_OR_EQUAL less_or_equal (λ a b. int_le a b) left right to s h is_less_or_equal refl (λ a b. refl)
+pub wide_less_or_equal-right : (t : Setting) → AreStored t.left t.right t.to → IsRightOfTwo (family.Comparison comparison_op.LessOrEqual) t (wide_comparison_code less_or_equal t.left t.right t.to t.scratch)
+wide_less_or_equal-right t h = compared-right comparison_op.LessOrEqual less_or_equal (λ a b. int_le a b) t h is_less_or_equal (λ a b. refl)
 
-pub wide_greater-right : (left right to : IntTy) (s : ℕ) → AreStored left right to → IsRight GREATER left right to s (wide_comparison_code greater left right to s)
-wide_greater-right left right to s h = compared-right GREATER greater (λ a b. int_lt b a) left right to s h is_greater refl (λ a b. refl)
+pub wide_greater-right : (t : Setting) → AreStored t.left t.right t.to → IsRightOfTwo (family.Comparison comparison_op.Greater) t (wide_comparison_code greater t.left t.right t.to t.scratch)
+wide_greater-right t h = compared-right comparison_op.Greater greater (λ a b. int_lt b a) t h is_greater (λ a b. refl)
 
-pub wide_greater_or_equal-right : (left right to : IntTy) (s : ℕ) → AreStored left right to → IsRight GREATER_OR_EQUAL left right to s (wide_comparison_code greater_or_equal left right to s)
-wide_greater_or_equal-right left right to s h = compared-right GREATER_OR_EQUAL greater_or_equal (λ a b. int_le b a) left right to s h is_greater_or_equal refl (λ a b. refl)
+pub wide_greater_or_equal-right : (t : Setting) → AreStored t.left t.right t.to → IsRightOfTwo (family.Comparison comparison_op.GreaterOrEqual) t (wide_comparison_code greater_or_equal t.left t.right t.to t.scratch)
+wide_greater_or_equal-right t h = compared-right comparison_op.GreaterOrEqual greater_or_equal (λ a b. int_le b a) t h is_greater_or_equal (λ a b. refl)
 
 -- ---- the lesser and the greater of two
 
@@ -248,18 +259,18 @@ choice-closed o left right to s =
     (closed-then (either_closed (both_fit left right) (both_unsigned left right) (Compare I64 o.signed ∷ []) (Compare I64 o.unsigned ∷ []) (mixed_code o left s) (compare-closed o.signed) (compare-closed o.unsigned) (mixed-closed o left s))
     (closed-then select-closed (settled-closed to)))))
 
-pub wide_min-right : (left right to : IntTy) (s : ℕ) → AreStored left right to → IsRight MIN left right to s (wide_choice_code less left right to s)
-wide_min-right left right to s h = record {
-  ends = λ m v c a b os rest il ir scratch state. wide_choice-ends m v c less (λ a b. int_lt a b) s left right to a b (int_min a b) os rest is_less h.left_stored h.right_stored il ir (scratch refl) (lesser a b);
-  typed = λ x ts scratch state. takes-choice x less left right to s ts (scratch refl);
-  closed = choice-closed less left right to s;
+pub wide_min-right : (t : Setting) → AreStored t.left t.right t.to → IsRightOfTwo (family.Extreme extreme_op.Min) t (wide_choice_code less t.left t.right t.to t.scratch)
+wide_min-right t h = record {
+  ends = λ m v c a b os rest il ir scratch state. wide_choice-ends m v c less (λ a b. int_lt a b) t.scratch t.left t.right t.to a b (int_min a b) os rest is_less h.left_stored h.right_stored il ir (scratch refl) (lesser a b);
+  typed = λ x ts scratch state. takes-choice x less t.left t.right t.to t.scratch ts (scratch refl);
+  closed = choice-closed less t.left t.right t.to t.scratch;
 }
 
-pub wide_max-right : (left right to : IntTy) (s : ℕ) → AreStored left right to → IsRight MAX left right to s (wide_choice_code greater left right to s)
-wide_max-right left right to s h = record {
-  ends = λ m v c a b os rest il ir scratch state. wide_choice-ends m v c greater (λ a b. int_lt b a) s left right to a b (int_max a b) os rest is_greater h.left_stored h.right_stored il ir (scratch refl) refl;
-  typed = λ x ts scratch state. takes-choice x greater left right to s ts (scratch refl);
-  closed = choice-closed greater left right to s;
+pub wide_max-right : (t : Setting) → AreStored t.left t.right t.to → IsRightOfTwo (family.Extreme extreme_op.Max) t (wide_choice_code greater t.left t.right t.to t.scratch)
+wide_max-right t h = record {
+  ends = λ m v c a b os rest il ir scratch state. wide_choice-ends m v c greater (λ a b. int_lt b a) t.scratch t.left t.right t.to a b (int_max a b) os rest is_greater h.left_stored h.right_stored il ir (scratch refl) refl;
+  typed = λ x ts scratch state. takes-choice x greater t.left t.right t.to t.scratch ts (scratch refl);
+  closed = choice-closed greater t.left t.right t.to t.scratch;
 }
 
 -- ---- operators of one operand
@@ -270,18 +281,20 @@ takes-minus_one x o from to ts = takes-then (takes-widened x from ts) (takes-the
 minus_one-closed : (o : BinaryOperator) (from to : IntTy) → IsClosed (wide_minus_one o from to)
 minus_one-closed o from to = closed-then (widened-closed from) (closed-then (const-closed o) (fitted-closed (fills_word to) to))
 
-pub wide_not-right : (from to : IntTy) (s : ℕ) → IsStored from → IsStored to → IsRightOnOne BIT_NOT from to s (wide_minus_one Xor from to)
-wide_not-right from to s hf ht = record {
-  ends = λ m v c a os rest i scratch state. wide_minus_one-ends m v c Xor s from to a (bits_not a) os rest hf ht i (turned_bits a);
-  typed = λ x ts scratch state. takes-minus_one x Xor from to ts;
-  closed = minus_one-closed Xor from to;
+pub wide_not-right : (t : Setting) → IsStored t.left → IsStored t.to → IsRightOfOne (family.Unary unary_op.BitNot) t (wide_minus_one Xor t.left t.to)
+wide_not-right t hf ht = record {
+  ends = λ m v c a os rest i scratch state. wide_minus_one-ends m v c Xor t.scratch t.left t.to a (bits_not a) os rest hf ht i (turned_bits a);
+  typed = λ x ts scratch state. takes-minus_one x Xor t.left t.to ts;
+  closed = minus_one-closed Xor t.left t.to;
 }
 
-pub wide_neg_wrap-right : (from to : IntTy) (s : ℕ) → IsStored from → IsStored to → IsRightOnOne NEG_WRAP from to s (wide_minus_one Mul from to)
-wide_neg_wrap-right from to s hf ht = record {
-  ends = λ m v c a os rest i scratch state. wide_minus_one-ends m v c Mul s from to a (neg_ℤ a) os rest hf ht i (negated_bits a);
-  typed = λ x ts scratch state. takes-minus_one x Mul from to ts;
-  closed = minus_one-closed Mul from to;
+pub wide_neg_wrap-right : (t : Setting) → IsStored t.left → IsStored t.to → IsRightOfOne (family.Unary unary_op.NegWrap) t (wide_minus_one Mul t.left t.to)
+wide_neg_wrap-right t hf ht = record {
+  ends = λ m v c a os rest i scratch state.
+      subst (λ r. EndsOnOne m v c t.scratch t.left t.to a os (wide_minus_one Mul t.left t.to) rest r) (sym (sized_wraps t.to (neg_ℤ a) (stored_sized t.to ht)))
+      (wide_minus_one-ends m v c Mul t.scratch t.left t.to a (neg_ℤ a) os rest hf ht i (negated_bits a));
+  typed = λ x ts scratch state. takes-minus_one x Mul t.left t.to ts;
+  closed = minus_one-closed Mul t.left t.to;
 }
 
 takes-same : (x : Context) (from to : IntTy) (ts : List ValType) → Takes x (wide_same_code from to) (type_of from ∷ ts) (type_of to ∷ ts)
@@ -290,18 +303,18 @@ takes-same x from to ts = takes-then (takes-widened x from ts) (takes-settled x 
 same-closed : (from to : IntTy) → IsClosed (wide_same_code from to)
 same-closed from to = closed-then (widened-closed from) (settled-closed to)
 
-pub wide_as-right : (from to : IntTy) (s : ℕ) → IsStored from → IsStored to → IsRightOnOne AS from to s (wide_same_code from to)
-wide_as-right from to s hf ht = record {
-  ends = λ m v c a os rest i scratch state. wide_same-ends m v c s from to a os rest hf i;
-  typed = λ x ts scratch state. takes-same x from to ts;
-  closed = same-closed from to;
+pub wide_as-right : (t : Setting) → IsStored t.left → IsStored t.to → IsRightOfOne (family.Cast cast_op.As) t (wide_same_code t.left t.to)
+wide_as-right t hf ht = record {
+  ends = λ m v c a os rest i scratch state. wide_same-ends m v c t.scratch t.left t.to a os rest hf i;
+  typed = λ x ts scratch state. takes-same x t.left t.to ts;
+  closed = same-closed t.left t.to;
 }
 
-pub wide_from_bool-right : (from to : IntTy) (s : ℕ) → IsStored from → IsStored to → IsRightOnOne INT_FROM_BOOL from to s (wide_same_code from to)
-wide_from_bool-right from to s hf ht = record {
-  ends = λ m v c a os rest i scratch state. wide_same-ends m v c s from to a os rest hf i;
-  typed = λ x ts scratch state. takes-same x from to ts;
-  closed = same-closed from to;
+pub wide_from_bool-right : (t : Setting) → IsStored t.left → IsStored t.to → IsRightOfOne (family.Cast cast_op.IntFromBool) t (wide_same_code t.left t.to)
+wide_from_bool-right t hf ht = record {
+  ends = λ m v c a os rest i scratch state. wide_same-ends m v c t.scratch t.left t.to a os rest hf i;
+  typed = λ x ts scratch state. takes-same x t.left t.to ts;
+  closed = same-closed t.left t.to;
 }
 
 pub takes-truncated_for : (t : Bool) (x : Context) (to : IntTy) (ts : List ValType) → Takes x (if t then settled to else wide_fitted to) (I64 ∷ ts) (type_of to ∷ ts)
@@ -312,18 +325,18 @@ pub truncated_for-closed : (t : Bool) (to : IntTy) → IsClosed (if t then settl
 truncated_for-closed true to = settled-closed to
 truncated_for-closed false to = fitted-closed (fills_word to) to
 
-pub wide_truncate-right : (from to : IntTy) (s : ℕ) → IsStored from → IsStored to → IsRightOnOne TRUNCATE from to s (wide_truncated_code from to)
-wide_truncate-right from to s hf ht = record {
-  ends = λ m v c a os rest i scratch state. wide_truncated-ends m v c s from to a os rest hf ht i;
-  typed = λ x ts scratch state. takes-then (takes-widened x from ts) (takes-truncated_for (holds to from) x to ts);
-  closed = closed-then (widened-closed from) (truncated_for-closed (holds to from) to);
+pub wide_truncate-right : (t : Setting) → IsStored t.left → IsStored t.to → IsRightOfOne (family.Cast cast_op.Truncate) t (wide_truncated_code t.left t.to)
+wide_truncate-right t hf ht = record {
+  ends = λ m v c a os rest i scratch state. wide_truncated-ends m v c t.scratch t.left t.to a os rest hf ht i;
+  typed = λ x ts scratch state. takes-then (takes-widened x t.left ts) (takes-truncated_for (holds t.to t.left) x t.to ts);
+  closed = closed-then (widened-closed t.left) (truncated_for-closed (holds t.to t.left) t.to);
 }
 
-pub wide_bit_cast-right : (from to : IntTy) (s : ℕ) → IsStored from → IsStored to → IsRightOnOne BIT_CAST from to s (wide_truncated_code from to)
-wide_bit_cast-right from to s hf ht = record {
-  ends = λ m v c a os rest i scratch state. wide_truncated-ends m v c s from to a os rest hf ht i;
-  typed = λ x ts scratch state. takes-then (takes-widened x from ts) (takes-truncated_for (holds to from) x to ts);
-  closed = closed-then (widened-closed from) (truncated_for-closed (holds to from) to);
+pub wide_bit_cast-right : (t : Setting) → IsStored t.left → IsStored t.to → IsRightOfOne (family.Cast cast_op.BitCast) t (wide_truncated_code t.left t.to)
+wide_bit_cast-right t hf ht = record {
+  ends = λ m v c a os rest i scratch state. wide_truncated-ends m v c t.scratch t.left t.to a os rest hf ht i;
+  typed = λ x ts scratch state. takes-then (takes-widened x t.left ts) (takes-truncated_for (holds t.to t.left) x t.to ts);
+  closed = closed-then (widened-closed t.left) (truncated_for-closed (holds t.to t.left) t.to);
 }
 
 takes-zero_spread : (x : Context) (from : IntTy) (s : ℕ) (ts : List ValType) → LongsAreTyped s x.locals → Takes x (zero_spread from s) (type_of from ∷ ts) ts
@@ -334,12 +347,12 @@ takes-zero_spread x from s ts h =
 zero_spread-closed : (from : IntTy) (s : ℕ) → IsClosed (zero_spread from s)
 zero_spread-closed from s = closed-then (widened-closed from) (record { by = λ open_ifs rest h. h })
 
-pub wide_neg-right : (from to : IntTy) (s : ℕ) → IsStored from → IsStored to → IsRightOnOne NEG from to s (wide_opposite_code from to s)
-wide_neg-right from to s hf ht = record {
-  ends = λ m v c a os rest i scratch state. wide_opposite-ends m v c s from to a os rest hf ht i (scratch refl) state;
+pub wide_neg-right : (t : Setting) → IsStored t.left → IsStored t.to → IsRightOfOne (family.Unary unary_op.Neg) t (wide_opposite_code t.left t.to t.scratch)
+wide_neg-right t hf ht = record {
+  ends = λ m v c a os rest i scratch state. wide_opposite-ends m v c t.scratch t.left t.to a os rest hf ht i scratch state;
   typed = λ x ts scratch state.
-      let there = longs s x.locals (scratch refl) in
-      takes-then (takes-zero_spread x from s ts there)
-      (takes-then (difference_test-for (all_unsigned from from to) (all_signed from from to) x from from to s ts there) (takes-tested x to s ts there state));
-  closed = closed-then (zero_spread-closed from s) (closed-then (difference_test-closed from from to s) (tested-closed to s));
+      let there = longs t.scratch x.locals scratch in
+      takes-then (takes-zero_spread x t.left t.scratch ts there)
+      (takes-then (difference_test-for (all_unsigned t.left t.left t.to) (all_signed t.left t.left t.to) x t.left t.left t.to t.scratch ts there) (takes-tested x t.to t.scratch ts there state));
+  closed = closed-then (zero_spread-closed t.left t.scratch) (closed-then (difference_test-closed t.left t.left t.to t.scratch) (tested-closed t.to t.scratch));
 }

@@ -5,6 +5,7 @@ use Rattle.std.proofs.lemmas.Bool.{ltb-true}
 use Rattle.std.proofs.lemmas.Int.{ints}
 use Rattle.std.proofs.Math.Nat.{pow-le-pow_right, mod-eq_of_lt}
 use Rattle.std.specs.Int.{w64}
+use Rattle.zw_num.specs.Meanings.{number_of_truth}
 use Rattle.zw_num.specs.Arithmetic.{IsIn, pattern}
 use Rattle.zw_num.specs.declared.int_ty.IntTy.{IntTy}
 use Rattle.zw_num.specs.declared.int_ty.IntTy.TheVariants.{Sized, Comptime}
@@ -15,7 +16,7 @@ use Rattle.zw_safety_narrow.proofs.Orders.{Relation, read}
 use Rattle.zw_safety_narrow.proofs.Pieces.{State, having, Steps, steps-none, steps-get, steps-const, steps-long_const, steps-compare_long, steps-extend_u}
 use Rattle.zw_safety_narrow.proofs.WordRuns.{both-true}
 use Rattle.zw_safety_narrow.specs.Checked.{HasScratch}
-use Rattle.zw_safety_narrow.specs.Operators.{IsStored, fills_word, truth}
+use Rattle.zw_safety_narrow.specs.Operators.{IsStored, fills_word}
 use Rattle.zw_safety_words.proofs.WideBitRuns.{Brings, brings-then, brings-value, both-brought, filled_both, longs, signed_fits, natural_low, steps-both_got}
 use Rattle.zw_safety_words.proofs.WideRuns.{Reaches, HasOperands, filled_by, has-operands, reaches, reaches-then, reaches-within, steps-settled, steps-spread, with_operands}
 use Rattle.zw_safety_words.specs.declared.order.Compared.{Compared}
@@ -86,11 +87,11 @@ chosen_bit : (g u k : Bool) → (if not g then I32 (bit_of k) else I32 (bit_of u
 chosen_bit true u k = refl
 chosen_bit false u k = refl
 
-truth_word : (k : Bool) → word_of (truth k) ≡ bit_of k
+truth_word : (k : Bool) → word_of (number_of_truth k) ≡ bit_of k
 truth_word true = refl
 truth_word false = refl
 
-steps-mixed : (m : Module) (v : View) (c : Config) (o : Compared) (left : IntTy) (s : ℕ) (z : ℤ) (x y : ℕ) (k : Bool) (os locals : List Num) → FitsSigned w64 z → slice_get locals (signed_local left s) ≡ Some (I64 (pattern 64 z)) → below_zero o left ≡ truth k →
+steps-mixed : (m : Module) (v : View) (c : Config) (o : Compared) (left : IntTy) (s : ℕ) (z : ℤ) (x y : ℕ) (k : Bool) (os locals : List Num) → FitsSigned w64 z → slice_get locals (signed_local left s) ≡ Some (I64 (pattern 64 z)) → below_zero o left ≡ number_of_truth k →
     Reaches m v c (mixed_code o left s) (having (I64 y ∷ I64 x ∷ os) locals) (having (I32 (bit_of (if int_le (pos 0) z then is_related o.unsigned w64 x y else k)) ∷ os) locals) 6
 steps-mixed m v c o left s z x y k os locals fits there e =
     let u = is_related o.unsigned w64 x y in
@@ -163,19 +164,19 @@ compared-for false false m v c o test left right s a b os locals is hl hr il ir 
           (reaches-then (reaches (steps-both_got m v c s (pattern 64 a) (pattern 64 b) os locals after has)) (mixes m v c o test left right s a b os locals after is hl hr il ir e f has));
     }
 
-truth_long : (t : Bool) → bit_of t ≡ pattern 64 (truth t)
+truth_long : (t : Bool) → bit_of t ≡ pattern 64 (number_of_truth t)
 truth_long true = refl
 truth_long false = refl
 
-pub settled-for : (w : Bool) (m : Module) (v : View) (c : Config) (t : Bool) (os locals : List Num) → Reaches m v c (if w then [] else Convert ExtendU ∷ []) (having (I32 (bit_of t) ∷ os) locals) (having (filled_by w (truth t) ∷ os) locals) 1
+pub settled-for : (w : Bool) (m : Module) (v : View) (c : Config) (t : Bool) (os locals : List Num) → Reaches m v c (if w then [] else Convert ExtendU ∷ []) (having (I32 (bit_of t) ∷ os) locals) (having (filled_by w (number_of_truth t) ∷ os) locals) 1
 settled-for true m v c t os locals =
     subst (λ n. Reaches m v c [] (having (I32 (bit_of t) ∷ os) locals) (having (I32 n ∷ os) locals) 1) (truth_bits t) (reaches-within (reaches (steps-none m v c (having (I32 (bit_of t) ∷ os) locals))) 1 (lit≤ tt))
-settled-for false m v c t os locals = reaches (steps-extend_u m v c (bit_of t) (pattern 64 (truth t)) os locals (truth_long t))
+settled-for false m v c t os locals = reaches (steps-extend_u m v c (bit_of t) (pattern 64 (number_of_truth t)) os locals (truth_long t))
 
-pub wide_comparison-ends : (m : Module) (v : View) (c : Config) (o : Compared) (test : ℤ → ℤ → Bool) (s : ℕ) (left right to : IntTy) (a b : ℤ) (os : List Num) (rest : List Instr) → IsOf o test → IsStored left → IsStored right → IsIn left a → IsIn right b → HasScratch s c.frame.locals → EndsOn m v c s left right to a b os (wide_comparison_code o left right to s) rest (Ok (truth (test a b)))
+pub wide_comparison-ends : (m : Module) (v : View) (c : Config) (o : Compared) (test : ℤ → ℤ → Bool) (s : ℕ) (left right to : IntTy) (a b : ℤ) (os : List Num) (rest : List Instr) → IsOf o test → IsStored left → IsStored right → IsIn left a → IsIn right b → HasScratch s c.frame.locals → EndsOn m v c s left right to a b os (wide_comparison_code o left right to s) rest (Ok (number_of_truth (test a b)))
 wide_comparison-ends m v c o test s left right to a b os rest is hl hr il ir room =
     let first = compared-for (both_fit left right) (both_unsigned left right) m v c o test left right s a b os c.frame.locals is hl hr il ir refl refl room in
-    brings-value m v c s left right to a b (truth (test a b)) os (wide_comparison_code o left right to s) rest 13 (lit≤ tt)
+    brings-value m v c s left right to a b (number_of_truth (test a b)) os (wide_comparison_code o left right to s) rest 13 (lit≤ tt)
     (brings-then first (settled-for (fills_word to) m v c (test a b) os first.after))
 
 -- ---- the lesser and the greater of two

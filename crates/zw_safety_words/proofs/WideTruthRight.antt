@@ -3,11 +3,14 @@ use Rattle.std.proofs.Common.{◌≡◌, ℕ, zero, suc, ℤ, pos, negsuc, false
 use Rattle.std.specs.Prelude.{nat_eq}
 use Rattle.std.specs.Ordering.{int_eq}
 use Rattle.std.proofs.lemmas.Int.{ints}
+use Rattle.zw_num.specs.Meanings.{number_of_truth}
 use Rattle.zw_num.specs.Arithmetic.{IsIn, pattern}
 use Rattle.zw_num.specs.declared.int_ty.IntTy.{IntTy}
-use Rattle.zw_num.specs.declared.op.TheConstants.{NOT}
+use Rattle.zw_num.specs.declared.operator.Operator.TheVariants as family
+use Rattle.zw_num.specs.declared.operator.Logic.TheVariants as logic_op
 use Rattle.zw_safety_narrow.proofs.CastRuns.{EndsOnOne}
-use Rattle.zw_safety_narrow.specs.Operators.{IsStored, IsRightOnOne, fills_word, truth, type_of}
+use Rattle.zw_safety_narrow.specs.Operators.{IsStored, IsRightOfOne, fills_word, type_of}
+use Rattle.zw_safety_narrow.specs.declared.setting.Setting.{Setting}
 use Rattle.zw_safety_words.proofs.WideAnswers.{divisor_from, divisor_below, steps-is_zero}
 use Rattle.zw_safety_words.proofs.WideBitRight.{takes-truth_for, truth-closed}
 use Rattle.zw_safety_words.proofs.WideBitRuns.{brings, leaves_one}
@@ -41,11 +44,11 @@ zero_bits (pos zero) h = refl
 zero_bits (pos (suc n)) h = (divisor_from n h).long ∙ is_some n
 zero_bits (negsuc n) h = (divisor_below n h).long ∙ is_below n
 
-wide_not-ends : (m : Module) (v : View) (c : Config) (s : ℕ) (from to : IntTy) (a : ℤ) (os : List Num) (rest : List Instr) → IsStored from → IsIn from a → EndsOnOne m v c s from to a os (wide_not_code from to) rest (Ok (truth (int_eq a (pos 0))))
+wide_not-ends : (m : Module) (v : View) (c : Config) (s : ℕ) (from to : IntTy) (a : ℤ) (os : List Num) (rest : List Instr) → IsStored from → IsIn from a → EndsOnOne m v c s from to a os (wide_not_code from to) rest (Ok (number_of_truth (int_eq a (pos 0))))
 wide_not-ends m v c s from to a os rest hf i =
     let locals = c.frame.locals in
     let t = int_eq a (pos 0) in
-    leaves_one m v c s from to a (truth t) os (wide_not_code from to) rest 3 (lit≤ tt)
+    leaves_one m v c s from to a (number_of_truth t) os (wide_not_code from to) rest 3 (lit≤ tt)
     (brings s (reaches-then (steps-widened m v c from a os locals hf i)
     (reaches-then (reaches (steps-is_zero m v c (pattern 64 a) t os locals (zero_bits a (held from a hf i)))) (settled-for (fills_word to) m v c t os locals))))
 
@@ -57,9 +60,9 @@ takes-not x from to ts =
 zero-closed : IsClosed (IsZero long ∷ [])
 zero-closed = record { by = λ open_ifs rest h. h }
 
-pub wide_is_false-right : (from to : IntTy) (s : ℕ) → IsStored from → IsStored to → IsRightOnOne NOT from to s (wide_not_code from to)
-wide_is_false-right from to s hf ht = record {
-  ends = λ m v c a os rest i scratch state. wide_not-ends m v c s from to a os rest hf i;
-  typed = λ x ts scratch state. takes-not x from to ts;
-  closed = closed-then (widened-closed from) (closed-then zero-closed (truth-closed (fills_word to)));
+pub wide_is_false-right : (t : Setting) → IsStored t.left → IsStored t.to → IsRightOfOne (family.Logic logic_op.Not) t (wide_not_code t.left t.to)
+wide_is_false-right t hf ht = record {
+  ends = λ m v c a os rest i scratch state. wide_not-ends m v c t.scratch t.left t.to a os rest hf i;
+  typed = λ x ts scratch state. takes-not x t.left t.to ts;
+  closed = closed-then (widened-closed t.left) (closed-then zero-closed (truth-closed (fills_word t.to)));
 }

@@ -1,5 +1,6 @@
 -- The code of comparisons, and of the lesser and the greater of two numbers, where a type has more than 32 bits.
 use Rattle.std.specs.Prelude.{ℕ, ℤ, pos, ◌+◌, Bool, true, false, ◌&&◌, nat_lt, List, [], ◌∷◌, ◌++◌, if◌then◌else◌}
+use Rattle.zw_num.specs.Meanings.{number_of_truth}
 use Rattle.zw_num.specs.declared.int_ty.IntTy.{IntTy}
 use Rattle.zw_num.specs.declared.int_ty.IntTy.TheVariants.{Sized, Comptime}
 use Rattle.zw_num.specs.declared.operator.Comparison.{Comparison}
@@ -7,7 +8,7 @@ use Rattle.zw_num.specs.declared.operator.Comparison.TheVariants as comparison
 use Rattle.zw_num.specs.declared.operator.Extreme.{Extreme}
 use Rattle.zw_num.specs.declared.operator.Extreme.TheVariants as extreme
 use Rattle.zw_safety_narrow.specs.CompareCode.{is_unsigned}
-use Rattle.zw_safety_narrow.specs.Operators.{fills_word, truth}
+use Rattle.zw_safety_narrow.specs.Operators.{fills_word}
 use Rattle.zw_safety_narrow.specs.declared.setting.Setting.{Setting}
 use Rattle.zw_safety_words.specs.declared.order.Compared.{Compared}
 use Rattle.zw_safety_words.specs.WideBitCode.{both_got}
@@ -35,7 +36,7 @@ abbrev pub signed_local : IntTy → ℕ → ℕ
 signed_local left scratch = if is_signed left then scratch + 5 else scratch + 4
 
 abbrev pub below_zero : Compared → IntTy → ℤ
-below_zero o left = truth (if is_signed left then o.left_below else o.right_below)
+below_zero o left = number_of_truth (if is_signed left then o.left_below else o.right_below)
 
 -- A number of all 64 bits against one with a sign: that of the bits, but where the second is negative.
 abbrev pub mixed_code : Compared → IntTy → ℕ → List Instr

@@ -4,6 +4,5 @@ pub mod Wild
 pub mod Sameness
 pub mod Coercions
 pub mod Applied
-pub mod Operations
 pub mod WorkedOperations
 pub mod WorkedStores

@@ -1,5 +1,0 @@
-use Rattle.zw_safety_narrow.proofs.FamiliesRight.{family_right}
-use Rattle.zw_safety_narrow.proofs.laws.families_are_right.Goals as goal
-
-pub returns : goal.returns
-returns c = λ operator setting served. family_right operator setting served
