@@ -18,6 +18,7 @@ pub mod Asking
 pub mod HostCalls
 pub mod Popping
 pub mod StoreSteps
+pub mod Executing
 pub mod Ending
 pub mod Beginnings
 pub mod StepRooms

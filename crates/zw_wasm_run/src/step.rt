@@ -1,7 +1,7 @@
 // One step of a call.
-ghost use Rattle.std.specs.Prelude.{◌≡◌, true, IfErr, IfOk};
-ghost use Rattle.zw_wasm.specs.Structure.{is_plain};
+ghost use Rattle.std.specs.Prelude.{◌≤◌, length, IfErr, IfOk};
 ghost use Rattle.zw_wasm_run.specs.Rooms.{KeepsRoom, StepWants};
+ghost use Rattle.zw_wasm_run.specs.Running.{body_of};
 ghost use Rattle.zw_wasm_run.specs.Settling.{IsAt, IsStanding};
 ghost use Rattle.zw_wasm_run.specs.Stores.{Steps};
 
@@ -15,7 +15,9 @@ use std::alloc::AllocError;
 use zw_wasm::Instr;
 use zw_wasm_words::NO_RULE;
 
-/// Takes the instruction that is due.
+/// Takes the instruction that is due. The frame's place is put behind it first, and back where it begins a sequence, so that what
+/// looks at the instruction is one match.
+#[inline(always)]
 pub fn step(
     code: &Code,
     instr: &Instr,
@@ -29,40 +31,37 @@ pub fn step(
     ensures room { KeepsRoom stacks.old stacks.new }
 {
     let body = stacks.frame.body;
+    let place = stacks.frame.at;
+    let end = past(code, body);
+    stacks.frame.at = place + 1;
     match instr {
         Instr::Block(ty) => {
+            stacks.frame.at = place;
             let effect = block(*ty, code.instrs(body), code.ends(body), stacks)?;
             Ok(taken(effect))
         }
         Instr::Loop(ty) => {
+            stacks.frame.at = place;
             let effect = repeat(*ty, code.instrs(body), code.ends(body), stacks)?;
             Ok(taken(effect))
         }
         Instr::If(ty) => {
+            stacks.frame.at = place;
             let effect = choice(*ty, code.instrs(body), code.ends(body), stacks)?;
             Ok(taken(effect))
         }
         Instr::End | Instr::Else => Ok(Taken::Traps(NO_RULE)),
-        _ => single(code, instr, store, stacks),
+        _ => {
+            let taken = execute(code.module(), instr, end, store, stacks)?;
+            Ok(taken)
+        }
     }
 }
 
-/// Takes an instruction that begins, divides or ends no sequence.
-fn single(
-    code: &Code,
-    instr: &Instr,
-    store: &mut Store,
-    stacks: &mut Stacks,
-) -> Result<Taken, AllocError>
-    requires standing { IsStanding code.now stacks.old }
-    requires due { IsAt code.now stacks.old instr.now }
-    requires plain { is_plain instr.now ≡ true }
-    ensures takes { IfOk result (λ t. Steps code.now store.old stacks.old t store.new stacks.new) }
-    ensures wants { IfErr result (λ e. StepWants code.now store.old stacks.old) }
-    ensures room { KeepsRoom stacks.old stacks.new }
+/// A place past the end of any body's code.
+#[inline(always)]
+fn past(code: &Code, body: usize) -> usize
+    ensures { length (body_of code.now body) ≤ result }
 {
-    let end = code.instrs(stacks.frame.body).len();
-    stacks.frame.at += 1;
-    let taken = execute(code.module(), instr, end, store, stacks)?;
-    Ok(taken)
+    usize::MAX.max(code.instrs(body).len())
 }

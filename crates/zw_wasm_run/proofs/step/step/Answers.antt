@@ -1,5 +1,37 @@
-use Rattle.zw_wasm_run.proofs.Beginnings.{steps_so}
+use Rattle.std.proofs.Common.{◌≡◌, ◌+◌, true, refl, subst, rules}
+use Rattle.zw_wasm.specs.declared.module.Module.{Module}
+use Rattle.zw_wasm.specs.Reduction.{act}
+use Rattle.zw_wasm.specs.Structure.{is_plain}
+use Rattle.zw_wasm_run.specs.declared.stacks.Stacks.{Stacks}
+use Rattle.zw_wasm_run.specs.Rooms.{Wants}
+use Rattle.zw_wasm_run.specs.Stores.{Executes}
+use Rattle.zw_wasm_run.proofs.Beginnings.{single_steps, steps_so}
+use Rattle.zw_wasm_run.proofs.Ending.{locals_fit}
+use Rattle.zw_wasm_run.proofs.StepRooms.{of_any_error, single_wants}
 use Rattle.zw_wasm_run.proofs.step.step.Goals as goal
+
+pub execute-requires-clause-fit : goal.execute-requires-clause-fit
+execute-requires-clause-fit c =
+    let fit = locals_fit c.args.code.now c.args.stacks.now c.requires.standing in
+    record { order = fit.order; inside = fit.inside }
+
+pub returns-in_ok-taken-in_default-clause-takes : goal.returns-in_ok-taken-in_default-clause-takes
+returns-in_ok-taken-in_default-clause-takes c =
+    let old = c.args.stacks.now in
+    let t = c.in_ok-taken-in_default.taken in
+    let mid : Stacks = record old { frame = record old.frame { at = old.frame.at + 1 } } in
+    let plain : is_plain c.args.instr.now ≡ true = search rules in
+    single_steps c.args.code.now c.args.instr.now c.args.store.now c.execute.new.shared old mid t c.execute.new.stacks c.requires.due plain refl refl refl refl
+    (subst (λ (m : Module). Executes m c.args.instr.now c.args.store.now mid t c.execute.new.shared c.execute.new.stacks) c.module.ensures c.in_ok-taken-in_default.ensures.executes)
+
+pub returns-in_err-taken-in_default-clause-wants : goal.returns-in_err-taken-in_default-clause-wants
+returns-in_err-taken-in_default-clause-wants c =
+    let old = c.args.stacks.now in
+    let mid : Stacks = record old { frame = record old.frame { at = old.frame.at + 1 } } in
+    let plain : is_plain c.args.instr.now ≡ true = search rules in
+    of_any_error c.from_residual-in_err-taken-in_default.result
+    (single_wants c.args.code.now c.args.instr.now c.args.store.now old mid c.requires.due plain refl refl refl refl
+    (subst (λ (m : Module). Wants m (act m c.args.instr.now) c.args.store.now mid) c.module.ensures c.in_err-taken-in_default.ensures.wants))
 
 pub returns-in_ok-effect-in-Block-clause-takes : goal.returns-in_ok-effect-in-Block-clause-takes
 returns-in_ok-effect-in-Block-clause-takes c =
