@@ -24,12 +24,19 @@ steps-preserved c =
     let reached : IsReached m c.steps.stacks i c.next.new.stacks = c.in-Some.ensures.due in
     let goes = goes_settled m c.args.store.now c.steps.store c.args.stacks.now c.steps.stacks c.next.new.stacks c.args.steps.now c.steps.steps i c.steps.invariant.goes c.next.ensures.room c.next.ensures.fewer reached in
     let count : c.steps.steps ≡ suc (c.steps.steps - 1) = omega (arith, c.if-steps-eq0.false) in
-    record {
-      goes =
-          goes_further m c.args.store.now c.steps.store c.step.new.store c.args.stacks.now c.next.new.stacks c.step.new.stacks c.args.steps.now c.steps.steps (c.steps.steps - 1) count goes c.step.ensures.room
-          (subst (λ (t : Taken). Steps m c.steps.store c.next.new.stacks t c.step.new.store c.step.new.stacks) c.in-Goes.is c.in_ok-step.ensures.takes);
-      own = search rules;
-    }
+    let further = goes_further m c.args.store.now c.steps.store c.step.new.store c.args.stacks.now c.next.new.stacks c.step.new.stacks c.args.steps.now c.steps.steps (c.steps.steps - 1) count goes c.step.ensures.room
+    (subst (λ (t : Taken). Steps m c.steps.store c.next.new.stacks t c.step.new.store c.step.new.stacks) c.in-Goes.is c.in_ok-step.ensures.takes) in
+    record { goes = further; own = search rules; fewer = omega arith }
+
+pub frames-preserved : goal.frames-preserved
+frames-preserved c =
+    let m = c.args.code.now in
+    let i = c.in-Some.instr.now in
+    let reached : IsReached m c.steps.stacks i c.next.new.stacks = c.in-Some.ensures.due in
+    let goes = goes_settled m c.args.store.now c.steps.store c.args.stacks.now c.steps.stacks c.next.new.stacks c.args.steps.now c.steps.steps i c.steps.invariant.goes c.next.ensures.room c.next.ensures.fewer reached in
+    let count : c.steps.steps ≡ suc (c.steps.steps - 1) = omega (arith, c.if-steps-eq0.false) in
+    goes_further m c.args.store.now c.steps.store c.step.new.store c.args.stacks.now c.next.new.stacks c.step.new.stacks c.args.steps.now c.steps.steps (c.steps.steps - 1) count goes c.step.ensures.room
+    (subst (λ (t : Taken). Steps m c.steps.store c.next.new.stacks t c.step.new.store c.step.new.stacks) c.in-Goes.is c.in_ok-step.ensures.takes)
 
 pub returns-in-Calls-clause-pauses : goal.returns-in-Calls-clause-pauses
 returns-in-Calls-clause-pauses c =
@@ -51,8 +58,8 @@ returns-in-Traps-clause-pauses c =
     stops m c.args.store.now c.steps.store c.step.new.store c.args.stacks.now c.next.new.stacks c.step.new.stacks c.args.steps.now c.steps.steps (c.steps.steps - 1) c.in-Traps.cause count goes
     (subst (λ (t : Taken). Steps m c.steps.store c.next.new.stacks t c.step.new.store c.step.new.stacks) c.in-Traps.is c.in_ok-step.ensures.takes)
 
-pub steps-init : goal.steps-init
-steps-init c = record { goes = goes_on c.args.code.now c.args.store.now c.args.stacks.now c.args.steps.now; own = search rules }
+pub frames-init : goal.frames-init
+frames-init c = goes_on c.args.code.now c.args.store.now c.args.stacks.now c.args.steps.now
 
 pub returns-in_err-step-clause-wants : goal.returns-in_err-step-clause-wants
 returns-in_err-step-clause-wants c =
