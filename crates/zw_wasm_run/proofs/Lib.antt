@@ -22,6 +22,7 @@ pub mod Executing
 pub mod Ending
 pub mod Beginnings
 pub mod StepRooms
+pub mod Performances
 pub mod LoopRooms
 pub mod Looping
 pub mod Places

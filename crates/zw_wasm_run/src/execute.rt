@@ -1,13 +1,15 @@
-// Instructions that begin, divide or end no sequence, by what they are. The frame's place is behind the instruction.
-ghost use Rattle.std.specs.Prelude.{◌≡◌, ◌≤◌, true, length, IfOk, IfErr};
-ghost use Rattle.zw_wasm.specs.Reduction.{act};
-ghost use Rattle.zw_wasm.specs.Structure.{is_plain};
+// Instructions by what they are. The frame's place is behind the instruction.
+ghost use Rattle.std.specs.Prelude.{◌≡◌, ◌≤◌, length, IfOk, IfErr};
 ghost use Rattle.zw_wasm_words.specs.Frames.{LocalsFit};
 ghost use Rattle.zw_wasm_run.specs.Running.{body_of};
-ghost use Rattle.zw_wasm_run.specs.Stores.{Executes, taken_of};
-ghost use Rattle.zw_wasm_run.specs.Rooms.{KeepsRoom, Wants};
+ghost use Rattle.zw_wasm_run.specs.Settling.{IsAt};
+ghost use Rattle.zw_wasm_run.specs.Stores.{taken_of};
+ghost use Rattle.zw_wasm_run.specs.Performing.{PerformWants, Performs, back};
+ghost use Rattle.zw_wasm_run.specs.Rooms.{KeepsRoom};
 
+use crate::begin::{block, choice, repeat};
 use crate::branches::{jump_by, jump_if, jump_to, return_from};
+use crate::code::Code;
 use crate::indirect::{call_any, call_by};
 use crate::operands::{
     binary, compare, convert, drop_last, is_zero, local_get, local_set, local_tee, narrow_constant,
@@ -24,18 +26,21 @@ use zw_wasm_words::{Effect, NO_RULE};
 /// Executes an instruction, where the body's code ends at this place or before it: one match, whatever the instruction is.
 #[inline(always)]
 pub fn execute(
+    code: &Code,
     m: &Module,
     instr: &Instr,
     end: usize,
     shared: &mut Store,
     stacks: &mut Stacks,
 ) -> Result<Taken, AllocError>
+    requires same { m.now ≡ code.now }
+    requires due { IsAt code.now (back stacks.old) instr.now }
     requires inside { stacks.old.frame.labels ≤ length stacks.old.labels.items }
     requires fit { LocalsFit stacks.old.frame stacks.old.words.items }
     requires end { length (body_of m.now stacks.old.frame.body) ≤ end }
-    requires plain { is_plain instr.now ≡ true }
-    ensures executes { IfOk result (λ t. Executes m.now instr.now shared.old stacks.old t shared.new stacks.new) }
-    ensures wants { IfErr result (λ e. Wants m.now (act m.now instr.now) shared.old stacks.old) }
+    requires behind { 1 ≤ stacks.old.frame.at }
+    ensures performs { IfOk result (λ t. Performs m.now instr.now shared.old stacks.old t shared.new stacks.new) }
+    ensures wants { IfErr result (λ e. PerformWants m.now instr.now shared.old stacks.old) }
     ensures room { KeepsRoom stacks.old stacks.new }
 {
     match instr {
@@ -68,9 +73,25 @@ pub fn execute(
         Instr::Unary(ty, operator) => Ok(unary(m, *ty, *operator, shared, stacks)),
         Instr::Binary(ty, operator) => Ok(binary(m, *ty, *operator, shared, stacks)),
         Instr::Convert(conversion) => Ok(convert(m, *conversion, shared, stacks)),
-        Instr::Block(_) | Instr::Loop(_) | Instr::If(_) | Instr::Else | Instr::End => {
-            Ok(Taken::Traps(NO_RULE))
+        Instr::Block(ty) => {
+            stacks.frame.at -= 1;
+            let body = stacks.frame.body;
+            let effect = block(*ty, code.instrs(body), code.ends(body), stacks)?;
+            Ok(taken(effect))
         }
+        Instr::Loop(ty) => {
+            stacks.frame.at -= 1;
+            let body = stacks.frame.body;
+            let effect = repeat(*ty, code.instrs(body), code.ends(body), stacks)?;
+            Ok(taken(effect))
+        }
+        Instr::If(ty) => {
+            stacks.frame.at -= 1;
+            let body = stacks.frame.body;
+            let effect = choice(*ty, code.instrs(body), code.ends(body), stacks)?;
+            Ok(taken(effect))
+        }
+        Instr::Else | Instr::End => Ok(Taken::Traps(NO_RULE)),
     }
 }
 

@@ -5,18 +5,15 @@ ghost use Rattle.zw_wasm_run.specs.Running.{body_of};
 ghost use Rattle.zw_wasm_run.specs.Settling.{IsAt, IsStanding};
 ghost use Rattle.zw_wasm_run.specs.Stores.{Steps};
 
-use crate::begin::{block, choice, repeat};
 use crate::code::Code;
-use crate::execute::{execute, taken};
+use crate::execute::execute;
 use crate::pause::Taken;
 use crate::stacks::Stacks;
 use crate::store::Store;
 use std::alloc::AllocError;
 use zw_wasm::Instr;
-use zw_wasm_words::NO_RULE;
 
-/// Takes the instruction that is due. The frame's place is put behind it first, and back where it begins a sequence, so that what
-/// looks at the instruction is one match.
+/// Takes the instruction that is due. The frame's place is put behind it first, so that what looks at it is one match.
 #[inline(always)]
 pub fn step(
     code: &Code,
@@ -30,32 +27,10 @@ pub fn step(
     ensures wants { IfErr result (λ e. StepWants code.now store.old stacks.old) }
     ensures room { KeepsRoom stacks.old stacks.new }
 {
-    let body = stacks.frame.body;
-    let place = stacks.frame.at;
-    let end = past(code, body);
-    stacks.frame.at = place + 1;
-    match instr {
-        Instr::Block(ty) => {
-            stacks.frame.at = place;
-            let effect = block(*ty, code.instrs(body), code.ends(body), stacks)?;
-            Ok(taken(effect))
-        }
-        Instr::Loop(ty) => {
-            stacks.frame.at = place;
-            let effect = repeat(*ty, code.instrs(body), code.ends(body), stacks)?;
-            Ok(taken(effect))
-        }
-        Instr::If(ty) => {
-            stacks.frame.at = place;
-            let effect = choice(*ty, code.instrs(body), code.ends(body), stacks)?;
-            Ok(taken(effect))
-        }
-        Instr::End | Instr::Else => Ok(Taken::Traps(NO_RULE)),
-        _ => {
-            let taken = execute(code.module(), instr, end, store, stacks)?;
-            Ok(taken)
-        }
-    }
+    let end = past(code, stacks.frame.body);
+    stacks.frame.at += 1;
+    let taken = execute(code, code.module(), instr, end, store, stacks)?;
+    Ok(taken)
 }
 
 /// A place past the end of any body's code.
