@@ -51,6 +51,10 @@ ends_all m first old new like ended ends = record {
 pub reached : (m : Module) (first new : Stacks) (i : Instr) → GoesLike m first new → slice_get (body_of m new.frame.body) new.frame.at ≡ Some i → closes i ≡ false → IsReached m first i new
 reached m first new i like here opens = record { at = record { here = here; opens = opens }; by = like.by }
 
+-- an instruction is due where the stacks stand already
+pub reached_here : (m : Module) (s : Stacks) (i : Instr) → IsStanding m s → slice_get (body_of m s.frame.body) s.frame.at ≡ Some i → closes i ≡ false → IsReached m s i s
+reached_here m s i standing here opens = reached m s s i (goes_like m s standing) here opens
+
 -- what the machine needs of stacks that stand for a configuration
 pub labels_inside : (m : Module) (s : Stacks) → IsStanding m s → s.frame.labels ≤ length s.labels.items
 labels_inside m s standing = let all = standing.stand in all.inside

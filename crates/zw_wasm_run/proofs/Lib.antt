@@ -18,9 +18,11 @@ pub mod Asking
 pub mod HostCalls
 pub mod Popping
 pub mod StoreSteps
+pub mod Executing
 pub mod Ending
 pub mod Beginnings
 pub mod StepRooms
+pub mod Performances
 pub mod LoopRooms
 pub mod Looping
 pub mod Places

@@ -14,6 +14,7 @@ pub mod Calls
 pub mod Hosting
 pub mod Invocation
 pub mod Rooms
+pub mod Performing
 pub mod Reserves
 pub mod MachineCalls
 pub mod WorkedCalls

@@ -16,6 +16,7 @@ use zw_wasm::{Instr, ValType};
 use zw_wasm_words::{Effect, Label, NO_RULE, low};
 
 /// A block begins under a label, past which a branch goes.
+#[inline(always)]
 pub fn block(
     ty: Option<ValType>,
     instrs: &[Instr],
@@ -42,6 +43,7 @@ pub fn block(
 }
 
 /// A loop begins under a label, with a branch to which it begins anew.
+#[inline(always)]
 pub fn repeat(
     ty: Option<ValType>,
     instrs: &[Instr],
@@ -67,6 +69,7 @@ pub fn repeat(
 }
 
 /// An `if` takes its operand and begins one of its codes as a block.
+#[inline(always)]
 pub fn choice(
     ty: Option<ValType>,
     instrs: &[Instr],
@@ -95,6 +98,7 @@ pub fn choice(
 }
 
 /// The place of the code that an `if` chooses by its operand.
+#[inline(always)]
 fn arm(arms: &Arms, word: u64) -> usize
     ensures { result ≡ if nat_eq (word % 2 ^ 32) 0 then arms.now.else_code else arms.now.then_code }
 {
@@ -106,6 +110,7 @@ fn arm(arms: &Arms, word: u64) -> usize
 }
 
 /// How many results the code of a block has.
+#[inline(always)]
 pub fn results(ty: Option<ValType>) -> usize
     ensures { result ≡ length (option_to_list ty) }
 {

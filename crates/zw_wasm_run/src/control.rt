@@ -59,6 +59,7 @@ pub struct Arms {
 }
 
 /// The arms of the `if` that stands at a place.
+#[inline(always)]
 pub fn arms_at(instrs: &[Instr], ends: &[SequenceEnd], place: usize) -> Arms
     requires inside { place < length instrs.now }
     requires behind { AreEndsFrom instrs.now (place + 1) ends.now }

@@ -20,6 +20,7 @@ use zw_wasm::{FuncType, Module, ValType, func_type, same_type};
 use zw_wasm_words::{Effect, NO_ENTRY, NO_RULE, SIGNATURE, low};
 
 /// A branch where the last operand isn't 0.
+#[inline(always)]
 pub fn branch_if(m: &Module, n: u32, end: usize, stacks: &mut Stacks) -> Effect
     requires inside { stacks.old.frame.labels ≤ length stacks.old.labels.items }
     requires end { length (body_of m.now stacks.old.frame.body) ≤ end }
@@ -36,6 +37,7 @@ pub fn branch_if(m: &Module, n: u32, end: usize, stacks: &mut Stacks) -> Effect
 }
 
 /// A branch by the last operand.
+#[inline(always)]
 pub fn branch_by(
     m: &Module,
     labels: &[u32],
@@ -56,6 +58,7 @@ pub fn branch_by(
 }
 
 /// The number at a place of a table of labels, or the default past it.
+#[inline(always)]
 fn label_at(labels: &[u32], place: usize, default: u32) -> u32
     ensures { result ≡ label_or default (slice_get labels.now place) }
 {

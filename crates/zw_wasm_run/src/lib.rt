@@ -2,9 +2,9 @@
 //! standard's reduction. It must not know: texts, printed lines.
 #![tactic(auto)]
 
-mod actions;
 mod ask;
 mod begin;
+mod branches;
 mod calls;
 mod code;
 mod control;
@@ -18,6 +18,7 @@ mod indirect;
 mod invoke;
 mod laws;
 mod machine;
+mod operands;
 mod pause;
 mod replies;
 mod run;

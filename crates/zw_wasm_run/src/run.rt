@@ -5,14 +5,14 @@ ghost use Rattle.zw_wasm_run.specs.Rooms.{KeepsRoom, RunWants};
 
 use crate::code::Code;
 use crate::pause::{Pause, Taken};
-use crate::settle::settle;
+use crate::settle::next;
 use crate::stacks::Stacks;
 use crate::step::step;
 use crate::store::Store;
 use std::alloc::AllocError;
 
 /// Takes instructions, up to so many, until the call ends, traps, or calls a function of the host. What is left of the bound is
-/// told.
+/// told. The instructions of the frame's body are looked up where the body changes.
 pub fn go_on(
     code: &Code,
     store: &mut Store,
@@ -24,18 +24,25 @@ pub fn go_on(
     ensures wants { IfErr result (λ e. RunWants code.now store.old stacks.old steps.old) }
     ensures room { KeepsRoom stacks.old stacks.new }
 {
-    'steps: loop {
-        let Some(instr) = settle(code, stacks) else {
-            return Ok(Pause::Over);
-        };
-        if *steps == 0 {
-            return Ok(Pause::StepsOut);
-        }
-        *steps -= 1;
-        match step(code, instr, store, stacks)? {
-            Taken::Goes => {}
-            Taken::Calls(func) => return Ok(Pause::Calls(func)),
-            Taken::Traps(cause) => return Ok(Pause::Traps(cause)),
+    'frames: loop {
+        let body = stacks.frame.body;
+        let instrs = code.instrs(body);
+        'steps: loop {
+            let Some(instr) = next(code, instrs, stacks) else {
+                return Ok(Pause::Over);
+            };
+            if *steps == 0 {
+                return Ok(Pause::StepsOut);
+            }
+            *steps -= 1;
+            match step(code, instr, store, stacks)? {
+                Taken::Goes => {}
+                Taken::Calls(func) => return Ok(Pause::Calls(func)),
+                Taken::Traps(cause) => return Ok(Pause::Traps(cause)),
+            }
+            if stacks.frame.body != body {
+                continue 'frames;
+            }
         }
     }
 }

@@ -3,6 +3,7 @@ ghost use Rattle.std.specs.Prelude.{◌≡◌, ◌+◌, ◌<◌, true, false, dr
 ghost use Rattle.zw_wasm.specs.Structure.{Ends, code_of};
 ghost use Rattle.zw_wasm_run.specs.Rooms.{HoldsFewer, KeepsRoom};
 ghost use Rattle.zw_wasm_run.specs.Running.{EndsFrame};
+ghost use Rattle.zw_wasm_run.specs.Bodies.{body_of};
 ghost use Rattle.zw_wasm_run.specs.Settling.{IsAtEnd, IsReached, IsStanding, closes};
 
 use crate::code::Code;
@@ -10,9 +11,26 @@ use crate::stacks::{Stacks, end_frame, end_label};
 use sqlite_items::at;
 use zw_wasm::{Instr, Module};
 
+/// The instruction that is due, as `settle` has it, where these are the instructions of the frame's body. Where none of them ends a
+/// sequence at its place, nothing is looked up.
+#[inline(always)]
+pub fn next<'a>(code: &'a Code, instrs: &'a [Instr], stacks: &mut Stacks) -> Option<&'a Instr>
+    requires standing { IsStanding code.now stacks.old }
+    requires own { instrs.now ≡ body_of code.now stacks.old.frame.body }
+    ensures due { MatchOption result (IsAtEnd code.now stacks.old stacks.new.words.items) (λ i. IsReached code.now stacks.old i.now stacks.new) }
+    ensures room { KeepsRoom stacks.old stacks.new }
+    ensures fewer { HoldsFewer stacks.old stacks.new }
+{
+    if let Some(instr) = due(instrs, stacks.frame.at) {
+        return Some(instr);
+    }
+    settle(code, stacks)
+}
+
 /// The instruction that is due, behind the ends of labels and frames. The answer is none where the call has ended, and the
 /// words are its results.
-pub fn settle<'a>(code: &'a Code, stacks: &mut Stacks) -> Option<&'a Instr>
+#[inline(never)]
+fn settle<'a>(code: &'a Code, stacks: &mut Stacks) -> Option<&'a Instr>
     requires { IsStanding code.now stacks.old }
     ensures due { MatchOption result (IsAtEnd code.now stacks.old stacks.new.words.items) (λ i. IsReached code.now stacks.old i.now stacks.new) }
     ensures room { KeepsRoom stacks.old stacks.new }
@@ -29,6 +47,7 @@ pub fn settle<'a>(code: &'a Code, stacks: &mut Stacks) -> Option<&'a Instr>
 }
 
 /// The instruction at a place, where no sequence ends there.
+#[inline(always)]
 fn due(instrs: &[Instr], place: usize) -> Option<&Instr>
     ensures { MatchOption result (code_of (drop place instrs.now) ≡ Ends) (λ i. (slice_get instrs.now place ≡ Some i.now) × (closes i.now ≡ false)) }
 {

@@ -16,6 +16,7 @@ use zw_wasm_words::accesses::{grow, load, size, store};
 use zw_wasm_words::globals::{get, set};
 
 /// What the memory has at the address in the last operand.
+#[inline(always)]
 pub fn load_word(
     m: &Module,
     kind: LoadKind,
@@ -35,6 +36,7 @@ pub fn load_word(
 }
 
 /// Writes the last operand at the address in the one below.
+#[inline(always)]
 pub fn store_word(
     m: &Module,
     kind: StoreKind,
@@ -89,6 +91,7 @@ fn most_pages(limits: &[Limits]) -> usize
 }
 
 /// The value of a global is an operand more.
+#[inline(always)]
 pub fn global_get(
     m: &Module,
     n: u32,
@@ -104,6 +107,7 @@ pub fn global_get(
 }
 
 /// The last operand is the value of a global.
+#[inline(always)]
 pub fn global_set(m: &Module, n: u32, shared: &mut Store, stacks: &mut Stacks) -> Taken
     ensures executes { Executes m.now (instr.GlobalSet n) shared.old stacks.old result shared.new stacks.new }
     ensures room { KeepsRoom stacks.old stacks.new }

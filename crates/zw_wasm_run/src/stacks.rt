@@ -20,6 +20,7 @@ pub struct Stacks {
 
 /// A branch to the label with this number, from the innermost on; the one behind the last is the body's, where the code ends
 /// at this place or before it (4.4.5.6).
+#[inline(always)]
 pub fn branch(n: usize, end: usize, stacks: &mut Stacks) -> Effect
     requires inside { stacks.old.frame.labels ≤ length stacks.old.labels.items }
     ensures acts { (m : Module) → length (body_of m stacks.old.frame.body) ≤ end → ActsOnStacks m (branched n) stacks.old result stacks.new }
@@ -36,6 +37,7 @@ pub fn branch(n: usize, end: usize, stacks: &mut Stacks) -> Effect
 }
 
 /// A branch to a label that is there.
+#[inline(always)]
 fn jump(n: usize, stacks: &mut Stacks) -> Effect
     requires inside { stacks.old.frame.labels ≤ length stacks.old.labels.items }
     requires there { n < length stacks.old.labels.items - stacks.old.frame.labels }

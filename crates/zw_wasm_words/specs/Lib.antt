@@ -4,7 +4,6 @@ pub mod FullLists
 pub mod Memory
 pub mod Operands
 pub mod Growths
-pub mod Kinds
 pub mod Frames
 pub mod Segments
 pub mod WorkedSegments

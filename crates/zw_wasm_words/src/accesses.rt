@@ -16,6 +16,7 @@ use std::alloc::AllocError;
 use zw_wasm::{LoadKind, StoreKind, ValType};
 
 /// What the memory has at the address in the last operand.
+#[inline(always)]
 pub fn load(kind: LoadKind, offset: u32, memory: &[u8], stack: &mut Vec<u64>) -> Effect
     ensures acts { ReadsMemory memory.now (λ c. on_one ValType.I32 (loads kind offset) c.frame.operands c) stack.old.items result stack.new.items }
     ensures room { vec_capacity stack.old ≤ vec_capacity stack.new }
@@ -31,6 +32,7 @@ pub fn load(kind: LoadKind, offset: u32, memory: &[u8], stack: &mut Vec<u64>) ->
 }
 
 /// Writes the last operand at the address in the one below.
+#[inline(always)]
 pub fn store(kind: StoreKind, offset: u32, memory: &mut [u8], stack: &mut Vec<u64>) -> Effect
     ensures acts { WritesMemory memory.old memory.new (λ c. on_one (store_type kind) (stores kind offset) c.frame.operands c) stack.old.items result stack.new.items }
     ensures room { vec_capacity stack.old ≤ vec_capacity stack.new }

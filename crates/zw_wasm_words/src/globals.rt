@@ -11,6 +11,7 @@ use std::alloc::AllocError;
 use zw_wasm::Num;
 
 /// The value of a global is an operand more.
+#[inline(always)]
 pub fn get(globals: &[Num], n: u32, stack: &mut Vec<u64>) -> Result<Effect, AllocError>
     ensures acts { IfOk result (λ e. ReadsGlobals globals.now (λ c. with_operand (slice_get c.world.store.globals n) c) stack.old.items e stack.new.items) }
     ensures wants { IfErr result (λ e. IsFullList stack.old) }
@@ -28,6 +29,7 @@ pub fn get(globals: &[Num], n: u32, stack: &mut Vec<u64>) -> Result<Effect, Allo
 }
 
 /// The last operand is the value of a global, whose type it has.
+#[inline(always)]
 pub fn set(globals: &mut Items<Num>, n: u32, stack: &mut Vec<u64>) -> Effect
     ensures acts { SetsGlobal n globals.old globals.new stack.old.items result stack.new.items }
     ensures room { vec_capacity stack.old ≤ vec_capacity stack.new }

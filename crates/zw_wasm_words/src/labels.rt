@@ -5,6 +5,7 @@ ghost use Rattle.zw_wasm_words.specs.Frames.{BranchesOn, KeepsResults, LocalsFit
 use crate::frame::{Frame, Label};
 
 /// Drops the operands between those below a label and those that a branch to it takes.
+#[inline(always)]
 pub fn unwind(label: &Label, stack: &mut Vec<u64>)
     requires { label.now.height + label.now.arity ≤ length stack.old.items }
     ensures branches { BranchesOn label.now stack.old.items stack.new.items }

@@ -11,6 +11,7 @@ use sqlite_items::at;
 use std::alloc::AllocError;
 
 /// The value of a parameter or local is an operand more.
+#[inline(always)]
 pub fn get(frame: &Frame, n: u32, stack: &mut Vec<u64>) -> Result<Effect, AllocError>
     requires { LocalsFit frame.now stack.old.items }
     ensures acts { IfOk result (λ e. ActsInFrame frame.now (λ c. with_operand (slice_get c.frame.locals n) c) stack.old.items e stack.new.items) }
@@ -25,6 +26,7 @@ pub fn get(frame: &Frame, n: u32, stack: &mut Vec<u64>) -> Result<Effect, AllocE
 }
 
 /// The last operand is the value of a parameter or local.
+#[inline(always)]
 pub fn set(frame: &Frame, n: u32, stack: &mut Vec<u64>) -> Effect
     requires { LocalsFit frame.now stack.old.items }
     ensures acts { ActsInFrame frame.now (λ c. on_operand (with_local n) c.frame.operands c) stack.old.items result stack.new.items }
@@ -42,6 +44,7 @@ pub fn set(frame: &Frame, n: u32, stack: &mut Vec<u64>) -> Effect
 }
 
 /// The same, and the operand stays.
+#[inline(always)]
 pub fn tee(frame: &Frame, n: u32, stack: &mut Vec<u64>) -> Effect
     requires { LocalsFit frame.now stack.old.items }
     ensures acts { ActsInFrame frame.now (λ c. on_operand (with_local_too n) c.frame.operands c) stack.old.items result stack.new.items }

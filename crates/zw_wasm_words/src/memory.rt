@@ -12,6 +12,7 @@ ghost use Rattle.zw_wasm_words.specs.Words.{bits_in};
 use zw_wasm::{LoadKind, StoreKind};
 
 /// The bits of the value that a load gives at this place, or none where some of its bytes lie outside the memory.
+#[inline(always)]
 pub fn load(kind: LoadKind, memory: &[u8], place: usize) -> Option<u64>
     requires { place < 2 ^ 33 }
     ensures value { result ≡ option_map (bits_loaded kind) (bytes_at memory.now place (byte_len (load_width kind))) }
@@ -34,6 +35,7 @@ pub fn load(kind: LoadKind, memory: &[u8], place: usize) -> Option<u64>
     }
 }
 
+#[inline(always)]
 fn load_u8(memory: &[u8], place: usize) -> Option<u8>
     requires { place < 2 ^ 33 }
     ensures { result ≡ option_map (from_le_bytes w8) (bytes_at memory.now place 1) }
@@ -44,6 +46,7 @@ fn load_u8(memory: &[u8], place: usize) -> Option<u8>
     Some(u8::from_le_bytes([memory[place]]))
 }
 
+#[inline(always)]
 fn load_u16(memory: &[u8], place: usize) -> Option<u16>
     requires { place < 2 ^ 33 }
     ensures { result ≡ option_map (from_le_bytes w16) (bytes_at memory.now place 2) }
@@ -56,6 +59,7 @@ fn load_u16(memory: &[u8], place: usize) -> Option<u16>
     Some(u16::from_le_bytes(bytes))
 }
 
+#[inline(always)]
 fn load_u32(memory: &[u8], place: usize) -> Option<u32>
     requires { place < 2 ^ 33 }
     ensures { result ≡ option_map (from_le_bytes w32) (bytes_at memory.now place 4) }
@@ -72,6 +76,7 @@ fn load_u32(memory: &[u8], place: usize) -> Option<u32>
     ]))
 }
 
+#[inline(always)]
 fn load_u64(memory: &[u8], place: usize) -> Option<u64>
     requires { place < 2 ^ 33 }
     ensures { result ≡ option_map (from_le_bytes w64) (bytes_at memory.now place 8) }
@@ -85,6 +90,7 @@ fn load_u64(memory: &[u8], place: usize) -> Option<u64>
 }
 
 /// Writes the bytes of a store at this place. Where some would lie outside the memory it writes none, and answers `false`.
+#[inline(always)]
 pub fn store(kind: StoreKind, memory: &mut [u8], place: usize, value: u64) -> bool
     requires { place < 2 ^ 33 }
     ensures { Stores memory.old place (bytes_stored kind value) result memory.new }
@@ -110,6 +116,7 @@ pub fn store(kind: StoreKind, memory: &mut [u8], place: usize, value: u64) -> bo
 }
 
 /// Writes bytes at a place. Where some would lie outside the memory it writes none, and answers `false`.
+#[inline(always)]
 pub fn write(memory: &mut [u8], place: usize, bytes: &[u8]) -> bool
     ensures { Stores memory.old place bytes.now result memory.new }
 {
@@ -121,6 +128,7 @@ pub fn write(memory: &mut [u8], place: usize, bytes: &[u8]) -> bool
 }
 
 /// The bits of the value that a store takes from a word.
+#[inline(always)]
 pub fn stored_bits(kind: StoreKind, word: u64) -> u64
     ensures { result ≡ bits_in (store_type kind) word }
 {

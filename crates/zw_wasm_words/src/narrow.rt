@@ -8,6 +8,7 @@ use crate::fault::Fault;
 use zw_wasm::{BinaryOperator, Comparison, UnaryOperator};
 
 /// Whether two numbers are so related.
+#[inline(always)]
 pub fn is_related(comparison: Comparison, x: u32, y: u32) -> bool
     ensures { result ≡ is_related comparison w32 x y }
 {
@@ -26,6 +27,7 @@ pub fn is_related(comparison: Comparison, x: u32, y: u32) -> bool
 }
 
 /// What an operator gives of one number.
+#[inline(always)]
 pub fn unary(operator: UnaryOperator, x: u32) -> u32
     ensures { result ≡ unary_of operator w32 x }
 {
@@ -37,6 +39,7 @@ pub fn unary(operator: UnaryOperator, x: u32) -> u32
 }
 
 /// What an operator gives of two numbers, or why it gives none.
+#[inline(always)]
 pub fn binary(operator: BinaryOperator, x: u32, y: u32) -> Result<u32, Fault>
     ensures { answer_of result ≡ binary_of operator w32 x y }
 {

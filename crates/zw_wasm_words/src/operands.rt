@@ -15,6 +15,7 @@ use std::alloc::AllocError;
 use zw_wasm::{BinaryOperator, Comparison, Conversion, UnaryOperator, ValType};
 
 /// The last word.
+#[inline(always)]
 pub fn last(stack: &[u64]) -> Option<u64>
     ensures { MatchOption result (stack.now ≡ []) (λ x. stack.now ≡ take (length stack.now - 1) stack.now ++ x ∷ []) }
 {
@@ -22,6 +23,7 @@ pub fn last(stack: &[u64]) -> Option<u64>
 }
 
 /// Puts another word in the place of the last one.
+#[inline(always)]
 pub fn replace_last(stack: &mut Vec<u64>, word: u64)
     requires { 0 < length stack.old.items }
     ensures items { stack.new.items ≡ take (length stack.old.items - 1) stack.old.items ++ word ∷ [] }
@@ -32,6 +34,7 @@ pub fn replace_last(stack: &mut Vec<u64>, word: u64)
 }
 
 /// Whether the last operand is 0.
+#[inline(always)]
 pub fn is_zero(ty: ValType, stack: &mut Vec<u64>) -> Effect
     ensures acts { ActsOnWords (λ c. on_one ty tested c.frame.operands c) stack.old.items result stack.new.items }
     ensures room { vec_capacity stack.old ≤ vec_capacity stack.new }
@@ -44,6 +47,7 @@ pub fn is_zero(ty: ValType, stack: &mut Vec<u64>) -> Effect
 }
 
 /// An operator on the last operand.
+#[inline(always)]
 pub fn unary(ty: ValType, operator: UnaryOperator, stack: &mut Vec<u64>) -> Effect
     ensures acts { ActsOnWords (λ c. on_one ty (computed ty operator) c.frame.operands c) stack.old.items result stack.new.items }
     ensures room { vec_capacity stack.old ≤ vec_capacity stack.new }
@@ -56,6 +60,7 @@ pub fn unary(ty: ValType, operator: UnaryOperator, stack: &mut Vec<u64>) -> Effe
 }
 
 /// The last operand in the other width.
+#[inline(always)]
 pub fn convert(conversion: Conversion, stack: &mut Vec<u64>) -> Effect
     ensures acts { ActsOnWords (λ c. on_one (converts_from conversion) (converted conversion) c.frame.operands c) stack.old.items result stack.new.items }
     ensures room { vec_capacity stack.old ≤ vec_capacity stack.new }
@@ -68,6 +73,7 @@ pub fn convert(conversion: Conversion, stack: &mut Vec<u64>) -> Effect
 }
 
 /// How the last two operands are related.
+#[inline(always)]
 pub fn compare(ty: ValType, comparison: Comparison, stack: &mut Vec<u64>) -> Effect
     ensures acts { ActsOnWords (λ c. on_two ty (compared ty comparison) c.frame.operands c) stack.old.items result stack.new.items }
     ensures room { vec_capacity stack.old ≤ vec_capacity stack.new }
@@ -80,6 +86,7 @@ pub fn compare(ty: ValType, comparison: Comparison, stack: &mut Vec<u64>) -> Eff
 }
 
 /// An operator on the last two operands.
+#[inline(always)]
 pub fn binary(ty: ValType, operator: BinaryOperator, stack: &mut Vec<u64>) -> Effect
     ensures acts { ActsOnWords (λ c. on_two ty (operated ty operator) c.frame.operands c) stack.old.items result stack.new.items }
     ensures room { vec_capacity stack.old ≤ vec_capacity stack.new }
@@ -96,6 +103,7 @@ pub fn binary(ty: ValType, operator: BinaryOperator, stack: &mut Vec<u64>) -> Ef
 }
 
 /// Takes the last operand away.
+#[inline(always)]
 pub fn drop_last(stack: &mut Vec<u64>) -> Effect
     ensures acts { ActsOnWords (λ c. on_operand dropped c.frame.operands c) stack.old.items result stack.new.items }
     ensures room { vec_capacity stack.old ≤ vec_capacity stack.new }
@@ -107,6 +115,7 @@ pub fn drop_last(stack: &mut Vec<u64>) -> Effect
 }
 
 /// Of the two operands below the last one the first where that isn't 0, else the second.
+#[inline(always)]
 pub fn select(stack: &mut Vec<u64>) -> Effect
     ensures acts { ActsOnWords (λ c. selected c.frame.operands c) stack.old.items result stack.new.items }
     ensures room { vec_capacity stack.old ≤ vec_capacity stack.new }
@@ -123,6 +132,7 @@ pub fn select(stack: &mut Vec<u64>) -> Effect
 }
 
 /// A number more, of this type and with these bits.
+#[inline(always)]
 pub fn constant(ty: ValType, bits: u64, stack: &mut Vec<u64>) -> Result<Effect, AllocError>
     requires { bits < 2 ^ bit_width (width_of ty) }
     ensures acts { IfOk result (λ e. ActsOnWords (λ c. Goes (pushed (number ty bits) c)) stack.old.items e stack.new.items) }

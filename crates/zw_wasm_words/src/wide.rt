@@ -8,6 +8,7 @@ use crate::fault::Fault;
 use zw_wasm::{BinaryOperator, Comparison, UnaryOperator};
 
 /// Whether two numbers are so related.
+#[inline(always)]
 pub fn is_related(comparison: Comparison, x: u64, y: u64) -> bool
     ensures { result ≡ is_related comparison w64 x y }
 {
@@ -26,6 +27,7 @@ pub fn is_related(comparison: Comparison, x: u64, y: u64) -> bool
 }
 
 /// What an operator gives of one number.
+#[inline(always)]
 pub fn unary(operator: UnaryOperator, x: u64) -> u64
     ensures { result ≡ unary_of operator w64 x }
 {
@@ -37,6 +39,7 @@ pub fn unary(operator: UnaryOperator, x: u64) -> u64
 }
 
 /// What an operator gives of two numbers, or why it gives none.
+#[inline(always)]
 pub fn binary(operator: BinaryOperator, x: u64, y: u64) -> Result<u64, Fault>
     ensures { answer_of result ≡ binary_of operator w64 x y }
 {

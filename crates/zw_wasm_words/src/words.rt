@@ -12,6 +12,7 @@ use crate::{narrow, wide};
 use zw_wasm::{BinaryOperator, Comparison, Conversion, UnaryOperator, ValType};
 
 /// The lowest 32 bits.
+#[inline(always)]
 pub fn low(word: u64) -> u32
     ensures { result ≡ bits_in ValType.I32 word }
 {
@@ -19,6 +20,7 @@ pub fn low(word: u64) -> u32
 }
 
 /// Whether the number is 0.
+#[inline(always)]
 pub fn is_zero(ty: ValType, x: u64) -> u64
     ensures { result ≡ bit_of (nat_eq (bits_in ty x) 0) }
 {
@@ -29,6 +31,7 @@ pub fn is_zero(ty: ValType, x: u64) -> u64
 }
 
 /// Whether two numbers are so related.
+#[inline(always)]
 pub fn compare(ty: ValType, comparison: Comparison, x: u64, y: u64) -> u64
     ensures value { result ≡ bit_of (is_related comparison (width_of ty) (bits_in ty x) (bits_in ty y)) }
     ensures bound { result < 2 ^ 32 }
@@ -40,6 +43,7 @@ pub fn compare(ty: ValType, comparison: Comparison, x: u64, y: u64) -> u64
 }
 
 /// What an operator gives of one number.
+#[inline(always)]
 pub fn unary(ty: ValType, operator: UnaryOperator, x: u64) -> u64
     ensures value { result ≡ unary_of operator (width_of ty) (bits_in ty x) }
     ensures bound { result < 2 ^ bit_width (width_of ty) }
@@ -51,6 +55,7 @@ pub fn unary(ty: ValType, operator: UnaryOperator, x: u64) -> u64
 }
 
 /// What an operator gives of two numbers, or why it gives none.
+#[inline(always)]
 pub fn binary(ty: ValType, operator: BinaryOperator, x: u64, y: u64) -> Result<u64, Fault>
     ensures value { answer_of result ≡ binary_of operator (width_of ty) (bits_in ty x) (bits_in ty y) }
     ensures bound { IfOk result (λ n. n < 2 ^ bit_width (width_of ty)) }
@@ -65,6 +70,7 @@ pub fn binary(ty: ValType, operator: BinaryOperator, x: u64, y: u64) -> Result<u
 }
 
 /// The number in the other width.
+#[inline(always)]
 pub fn convert(conversion: Conversion, x: u64) -> u64
     ensures { result ≡ bits_of (conversion_of conversion (bits_in (converts_from conversion) x)) }
 {

@@ -1,17 +1,29 @@
-use Rattle.zw_wasm_run.proofs.Beginnings.{steps_so}
+use Rattle.std.proofs.Common.{subst}
+use Rattle.zw_wasm.specs.declared.module.Module.{Module}
+use Rattle.zw_wasm_run.specs.Performing.{PerformWants, Performs}
+use Rattle.zw_wasm_run.proofs.Ending.{locals_fit}
+use Rattle.zw_wasm_run.proofs.Performances.{due_behind, passed, perform_wanted, performed}
+use Rattle.zw_wasm_run.proofs.StepRooms.{of_any_error}
 use Rattle.zw_wasm_run.proofs.step.step.Goals as goal
 
-pub returns-in_ok-effect-in-Block-clause-takes : goal.returns-in_ok-effect-in-Block-clause-takes
-returns-in_ok-effect-in-Block-clause-takes c =
-    let m = c.args.code.now in
-    steps_so m c.args.store.now c.args.stacks.now c.in_ok-effect-in-Block.effect c.taken.result c.block.new.stacks c.taken.ensures (c.in_ok-effect-in-Block.ensures.takes m c.instrs.ensures)
+pub execute-requires-clause-fit : goal.execute-requires-clause-fit
+execute-requires-clause-fit c =
+    let fit = locals_fit c.args.code.now c.args.stacks.now c.requires.standing in
+    record { order = fit.order; inside = fit.inside }
 
-pub returns-in_ok-effect-in-Loop-clause-takes : goal.returns-in_ok-effect-in-Loop-clause-takes
-returns-in_ok-effect-in-Loop-clause-takes c =
-    let m = c.args.code.now in
-    steps_so m c.args.store.now c.args.stacks.now c.in_ok-effect-in-Loop.effect c.taken-in-Loop.result c.repeat.new.stacks c.taken-in-Loop.ensures (c.in_ok-effect-in-Loop.ensures.takes m c.instrs-in-Loop.ensures)
+pub execute-requires-clause-due : goal.execute-requires-clause-due
+execute-requires-clause-due c = due_behind c.args.code.now c.args.instr.now c.args.stacks.now c.requires.due
 
-pub returns-in_ok-effect-in-If-clause-takes : goal.returns-in_ok-effect-in-If-clause-takes
-returns-in_ok-effect-in-If-clause-takes c =
-    let m = c.args.code.now in
-    steps_so m c.args.store.now c.args.stacks.now c.in_ok-effect-in-If.effect c.taken-in-If.result c.choice.new.stacks c.taken-in-If.ensures (c.in_ok-effect-in-If.ensures.takes m c.instrs-in-If.ensures)
+pub returns-clause-takes : goal.returns-clause-takes
+returns-clause-takes c =
+    let old = c.args.stacks.now in
+    let t = c.in_ok-taken.taken in
+    performed c.args.code.now c.args.instr.now c.args.store.now c.execute.new.shared old t c.execute.new.stacks c.requires.due
+    (subst (λ (m : Module). Performs m c.args.instr.now c.args.store.now (passed old) t c.execute.new.shared c.execute.new.stacks) c.module.ensures c.in_ok-taken.ensures.performs)
+
+pub returns-in_err-taken-clause-wants : goal.returns-in_err-taken-clause-wants
+returns-in_err-taken-clause-wants c =
+    let old = c.args.stacks.now in
+    of_any_error c.from_residual.result
+    (perform_wanted c.args.code.now c.args.instr.now c.args.store.now old c.requires.due
+    (subst (λ (m : Module). PerformWants m c.args.instr.now c.args.store.now (passed old)) c.module.ensures c.in_err-taken.ensures.wants))
