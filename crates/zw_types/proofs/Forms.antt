@@ -12,7 +12,7 @@ use Rattle.zw_types.specs.declared.type_form.TypeForm.TheVariants as form
 use Rattle.zw_types.specs.TypeTrees as tree
 use Rattle.zw_types.specs.TypeTrees.{TypeTree, TypeOption, TypeOptions, ValueTree, ValueOption, ValueTrees, values_from, types_from, type_option}
 use Rattle.zw_types.specs.Readings.{type_at, value_layer, value_tree, values_tree, sentinel_tree, form_tree, types_in_layer, types_in, types_in_all, types_in_choice, number_in, types_in_form}
-use Rattle.zw_types.specs.SameTypes.{same_type}
+use Rattle.zw_types.specs.SameTypes.{same_type, place_of}
 use Rattle.zw_types.proofs.Each.{Each, Each-left, Each-right}
 use Rattle.zw_types.proofs.ValueInduction.{Cases, value_induction}
 use Rattle.zw_types.proofs.Agreement.{value_tree-roll, types_in-roll}
@@ -20,11 +20,6 @@ use Rattle.zw_types.proofs.Agreement.{value_tree-roll, types_in-roll}
 -- no type stands in the list twice
 abbrev pub IsOneEach : List TypeTree → Type 0
 IsOneEach ts = (i j : ℕ) → i < length ts → j < length ts → slice_index_or ts i tree.VoidType ≡ slice_index_or ts j tree.VoidType → i ≡ j
-
--- the place of a type in a list, or the list's length where it isn't there
-pub place_of : TypeTree → List TypeTree → ℕ
-place_of t [] = zero
-place_of t (x ∷ xs) = elim (same_type t x) [ yes _ ↦ zero | no _ ↦ suc (place_of t xs) ]
 
 -- at the place there is the type
 pub place_of-at : (ts : List TypeTree) (k : ℕ) → k < length ts → (place_of (slice_index_or ts k tree.VoidType) ts < length ts) × (slice_index_or ts (place_of (slice_index_or ts k tree.VoidType) ts) tree.VoidType ≡ slice_index_or ts k tree.VoidType)

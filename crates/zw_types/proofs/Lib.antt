@@ -1,3 +1,9 @@
+pub mod KeptTables
+pub mod PartLemmas
+pub mod ComptimeLemmas
+pub mod ShapeLemmas
+pub mod KeptLemmas
+pub mod BoundedLemmas
 pub mod Each
 pub mod ValueInduction
 pub mod Agreement

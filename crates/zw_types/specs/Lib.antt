@@ -1,5 +1,7 @@
 pub mod TypeTrees
 pub mod Readings
+pub mod Sizes
+pub mod KeptLayouts
 pub mod SameTypes
 pub mod Tables
 pub mod Entries

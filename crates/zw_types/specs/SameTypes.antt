@@ -1,5 +1,5 @@
 -- Whether two types, or two values, are the same: definitions that go by cases on it can be computed.
-use Rattle.std.specs.Prelude.{◌≡◌, List, [], ◌∷◌, Option, Some, None, refl}
+use Rattle.std.specs.Prelude.{◌≡◌, ℕ, zero, suc, List, [], ◌∷◌, Option, Some, None, refl}
 use Rattle.std.proofs.Math.Bool.{Bool-discrete}
 use Rattle.std.proofs.Math.Decide.{ℕ_discrete}
 use Rattle.std.proofs.Math.IntN.{ℤ_discrete}
@@ -31,3 +31,8 @@ option_discrete d (Some x) (Some y) = of_part (d x y)
 
 pub same_type : Discrete TypeTree
 same_type = tree.same_tree Bool-discrete ℕ_discrete (list_discrete ℕ_discrete) (option_discrete ℕ_discrete) (list_discrete Bool-discrete) ℤ_discrete
+
+-- the place of a type in a list, or the list's length where it isn't there
+unfoldable pub place_of : TypeTree → List TypeTree → ℕ
+place_of t [] = zero
+place_of t (x ∷ xs) = elim (same_type t x) [ yes _ ↦ zero | no _ ↦ suc (place_of t xs) ]

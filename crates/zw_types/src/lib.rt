@@ -3,13 +3,16 @@
 #![tactic(auto)]
 
 mod equality;
+mod kept;
 mod laws;
+mod layout;
 mod type_form;
 mod type_text;
 mod types;
 mod value;
 
 pub use laws::{one_number, readings_stay, texts_are_worked, types_are_worked};
+pub use layout::Layout;
 pub use type_form::{FieldShape, Owner, SetRule, Shape, TypeForm};
 pub use types::Types;
 pub use value::{TypeId, Value};

@@ -58,7 +58,7 @@ impl Types {
 }
 
 /// The type whose text ends the text of a type, where there is one.
-fn element(form: &TypeForm) -> Option<TypeId>
+pub(crate) fn element(form: &TypeForm) -> Option<TypeId>
     ensures read { (trees : List TypeTree) → option_map (type_at trees) result ≡ element_of (form_tree trees form.now) }
     ensures known { (n : ℕ) → All (λ k. k < n) (types_in_form form.now) → MatchOption result (Unit {0}) (λ of. of.0 < n) }
 {

@@ -1,11 +1,13 @@
 // The table of types. It is a plain list that is searched; no contract tells.
-ghost use Rattle.std.specs.Prelude.{◌≡◌, ◌↔◌, ◌<◌, ◌≤◌, length, slice_get, All, Contains, IsTrue, IsOk, IfOk, OnErr, MatchOption, MatchBool, Some, None, List};
+ghost use Rattle.std.specs.Prelude.{◌≡◌, ◌↔◌, ◌<◌, ◌≤◌, ◌++◌, ◌∷◌, [], length, slice_get, All, Contains, IsTrue, IsOk, IfOk, OnErr, OnOk, MatchOption, MatchBool, Some, None, List};
 ghost use Rattle.zw_types.specs.TypeTrees as tree;
 ghost use Rattle.zw_types.specs.TypeTrees.{TypeTree};
 ghost use Rattle.zw_types.specs.Readings.{form_tree};
 ghost use Rattle.zw_types.specs.Entries.{forms_of};
 
 use crate::equality::same_form;
+use crate::kept::settle;
+use crate::layout::Layout;
 use crate::type_form::{Shape, TypeForm};
 use crate::value::TypeId;
 use sqlite_items::Items;
@@ -26,6 +28,8 @@ pub(crate) struct Entry {
 pub struct Types {
     entries: Vec<Entry>,
     errors: Vec<Items<u8>>,
+    /// What is known of the layout of each type.
+    kept: Vec<Option<Option<Layout>>>,
 }
 
 impl Model for Types {
@@ -36,16 +40,19 @@ impl Model for Types {
 
     ghost coded = { coded_table };
 
-    ghost use Rattle.std.specs.Prelude.{◌<◌, ◌^◌, length};
+    ghost use Rattle.std.specs.Prelude.{◌<◌, ◌^◌, length, []};
     ghost use Rattle.zw_types.specs.Entries.{table_of, AreEntries};
+    ghost use Rattle.zw_types.specs.KeptLayouts.{AreKept};
 
     ghost view = { λ types. table_of types.entries.items types.errors.items };
 
-    ghost invariant = { λ types. AreEntries types.entries.items × (length types.errors.items < 2 ^ 32) };
+    ghost invariant = { λ types. AreEntries types.entries.items × (length types.errors.items < 2 ^ 32) × AreKept (table_of types.entries.items []) types.kept.items };
 }
 
 impl Types {
     ghost use Rattle.zw_types.specs.Readings.{type_at, shape_tree, types_in_form, types_in_shape};
+    ghost use Rattle.zw_types.specs.Sizes.{IsLaidOut};
+    ghost use Rattle.zw_types.specs.KeptLayouts.{IsKept};
     ghost use Rattle.zw_types.specs.Tables.{no_table, IsTable, IsFormed, IsInterned, IsOpen, IsShapeOf, resolved, Keeps};
 
     /// A table without types.
@@ -55,6 +62,7 @@ impl Types {
         Types {
             entries: Vec::new(alloc),
             errors: Vec::new(alloc),
+            kept: Vec::new(alloc),
         }
     }
 
@@ -114,7 +122,8 @@ impl Types {
         if number > u32::MAX as usize {
             return Err(Oom);
         }
-        self.entries.push(Entry { form, shape: None })?;
+        grow(&mut self.entries, &mut self.kept, form)?;
+        settle(self.entries.as_slice(), &mut self.kept);
         Ok(TypeId(number as u32))
     }
 
@@ -133,7 +142,22 @@ impl Types {
             return Ok(false);
         }
         self.entries[id.0 as usize].shape = Some(shape);
+        settle(self.entries.as_slice(), &mut self.kept);
         Ok(true)
+    }
+
+    /// The layout of a type, where a size of more than 2^127 bytes is 2^127; None exactly where the type has no run-time form. Each
+    /// container that lies in the type by value is resolved, and none lies in itself. It takes no memory, and time that doesn't
+    /// depend on the type.
+    pub fn layout(&self, id: TypeId) -> Option<Layout>
+        requires held { id.0 < length self.now.trees }
+        requires laid_out { IsLaidOut self.now (type_at self.now.trees id) }
+        ensures { IsKept self.now (type_at self.now.trees id) result }
+    {
+        match self.kept[id.0 as usize] {
+            Some(layout) => layout,
+            None => None,
+        }
     }
 
     /// Whether a type is a container without fields so far.
@@ -154,6 +178,27 @@ impl Types {
         ensures fits { MatchOption result (Unit {0}) (λ shape. IsShapeOf self.now (type_at self.now.trees id) (shape_tree self.now.trees shape.now)) }
     {
         self.entries[id.0 as usize].shape.as_ref()
+    }
+}
+
+/// An entry more, of whose layout nothing is known yet. Oom changes nothing.
+fn grow(
+    entries: &mut Vec<Entry>,
+    kept: &mut Vec<Option<Option<Layout>>>,
+    form: TypeForm,
+) -> Result<(), Oom>
+    ensures entries { OnOk result (entries.new.items ≡ entries.old.items ++ record { form = form; shape = None } ∷ []) }
+    ensures kept { OnOk result (kept.new.items ≡ kept.old.items ++ None ∷ []) }
+    ensures no_entry { OnErr result (entries.new.items ≡ entries.old.items) }
+    ensures none_kept { OnErr result (kept.new.items ≡ kept.old.items) }
+{
+    kept.push(None)?;
+    match entries.push(Entry { form, shape: None }) {
+        Ok(()) => Ok(()),
+        Err(_) => {
+            kept.pop();
+            Err(Oom)
+        }
     }
 }
 

@@ -1,0 +1,2 @@
+pub mod ScopeExit
+pub mod WorkedExits

@@ -1,0 +1,27 @@
+-- What is kept beside a type is its layout.
+use Rattle.std.proofs.Common.{◌≡◌, ◌<◌, length, sym, ap, subst, arith}
+use Rattle.zw_types.specs.TypeTrees.{TypeTree}
+use Rattle.zw_types.specs.Readings.{type_at}
+use Rattle.zw_types.specs.Tables.{TypeTable}
+use Rattle.zw_types.specs.Sizes.{IsLaidOut}
+use Rattle.zw_types.specs.KeptLayouts.{IsKept}
+use Rattle.zw_types.specs.Entries.{trees_of}
+use Rattle.zw_types.proofs.EntryLemmas.{length-trees_of}
+use Rattle.zw_types.proofs.KeptTables.{kept_is, none_kept_is}
+use Rattle.zw_types.proofs.types.Types.layout.Goals as goal
+
+pub returns-in-Some : goal.returns-in-Some
+returns-in-Some c =
+    let es = c.self.inside.entries.items in
+    let same : trees_of es ≡ c.args.self.now.trees = ap (λ (t : TypeTable). t.trees) c.self.view_is in
+    let within : c.args.id.0 < length es = omega (arith, length-trees_of es, ap (length {A = TypeTree}) same) in
+    subst (λ (t : TypeTable). IsKept t (type_at t.trees c.args.id) c.in-Some.layout) c.self.view_is
+    (kept_is es c.self.inside.errors.items c.self.inside.kept.items c.self.invariant.2 c.args.id.0 within c.index.result.now c.index.ensures c.in-Some.layout c.in-Some.is)
+
+pub returns-in-None : goal.returns-in-None
+returns-in-None c =
+    let es = c.self.inside.entries.items in
+    let same : trees_of es ≡ c.args.self.now.trees = ap (λ (t : TypeTable). t.trees) c.self.view_is in
+    let within : c.args.id.0 < length es = omega (arith, length-trees_of es, ap (length {A = TypeTree}) same) in
+    absurd (none_kept_is es c.self.inside.errors.items c.self.inside.kept.items c.self.invariant.2 c.args.id.0 within c.index.result.now c.index.ensures c.in-None.is
+    (subst (λ (t : TypeTable). IsLaidOut t (type_at t.trees c.args.id)) (sym c.self.view_is) c.requires.laid_out))
