@@ -1,5 +1,5 @@
 -- What holds of sessions with a file and with a module alike, and which calls make a session.
-use Rattle.std.specs.Prelude.{◌≡◌, ℕ, ℤ, List, length, All, IsTrue, Some}
+use Rattle.std.specs.Prelude.{◌≡◌, ℤ, List, length, All, IsTrue, Some}
 use Rattle.zw_calls.specs.Numbers.{IsNarrow}
 use Rattle.zw_form.specs.Source.{Exported, export_named, source_fits, source_machine}
 use Rattle.zw_form.specs.Trees.{Tree}
