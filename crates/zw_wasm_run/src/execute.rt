@@ -7,7 +7,6 @@ ghost use Rattle.zw_wasm_run.specs.Stores.{taken_of};
 ghost use Rattle.zw_wasm_run.specs.Performing.{PerformWants, Performs, back};
 ghost use Rattle.zw_wasm_run.specs.Rooms.{KeepsRoom};
 
-use crate::begin::{block, choice, repeat};
 use crate::branches::{jump_by, jump_if, jump_to, return_from};
 use crate::code::Code;
 use crate::indirect::{call_any, call_by};
@@ -16,6 +15,7 @@ use crate::operands::{
     nop, select, unary, unreachable, wide_constant,
 };
 use crate::pause::Taken;
+use crate::sequences::{enter_block, enter_choice, enter_loop};
 use crate::shared::{global_get, global_set, load_word, memory_grow, memory_size, store_word};
 use crate::stacks::Stacks;
 use crate::store::Store;
@@ -73,24 +73,9 @@ pub fn execute(
         Instr::Unary(ty, operator) => Ok(unary(m, *ty, *operator, shared, stacks)),
         Instr::Binary(ty, operator) => Ok(binary(m, *ty, *operator, shared, stacks)),
         Instr::Convert(conversion) => Ok(convert(m, *conversion, shared, stacks)),
-        Instr::Block(ty) => {
-            stacks.frame.at -= 1;
-            let body = stacks.frame.body;
-            let effect = block(*ty, code.instrs(body), code.ends(body), stacks)?;
-            Ok(taken(effect))
-        }
-        Instr::Loop(ty) => {
-            stacks.frame.at -= 1;
-            let body = stacks.frame.body;
-            let effect = repeat(*ty, code.instrs(body), code.ends(body), stacks)?;
-            Ok(taken(effect))
-        }
-        Instr::If(ty) => {
-            stacks.frame.at -= 1;
-            let body = stacks.frame.body;
-            let effect = choice(*ty, code.instrs(body), code.ends(body), stacks)?;
-            Ok(taken(effect))
-        }
+        Instr::Block(ty) => enter_block(code, m, *ty, shared, stacks),
+        Instr::Loop(ty) => enter_loop(code, m, *ty, shared, stacks),
+        Instr::If(ty) => enter_choice(code, m, *ty, shared, stacks),
         Instr::Else | Instr::End => Ok(Taken::Traps(NO_RULE)),
     }
 }

@@ -22,6 +22,7 @@ mod operands;
 mod pause;
 mod replies;
 mod run;
+mod sequences;
 mod settle;
 mod shared;
 mod shown;
