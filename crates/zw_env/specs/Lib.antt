@@ -3,3 +3,5 @@ pub mod Children
 pub mod Counting
 pub mod WorkedCounts
 pub mod SoundParts
+pub mod FlowParts
+pub mod FlowChildren

@@ -1,1 +1,2 @@
 pub mod DeclarationRules
+pub mod FlowDeclarationRules

@@ -15,3 +15,10 @@ pub mod ProgramsOf
 pub mod WorkedUnreached
 pub mod Exchanged
 pub mod WorkedExchanged
+pub mod FlowPlaces
+pub mod FlowStates
+pub mod FlowBuilding
+pub mod FlowWalk
+pub mod FlowFiles
+pub mod FlowTexts
+pub mod WorkedStatements

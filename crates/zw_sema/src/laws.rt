@@ -9,6 +9,7 @@ ghost use Rattle.zw_sema.specs.WorkedExchanged.{WorkedExchanged};
 ghost use Rattle.zw_sema.specs.WorkedExpressions.{WorkedIntegers};
 ghost use Rattle.zw_sema.specs.WorkedForms.{WorkedFunctions, WorkedOperators};
 ghost use Rattle.zw_sema.specs.WorkedHost.{WorkedHost, WorkedTruths};
+ghost use Rattle.zw_sema.specs.WorkedStatements.{WorkedFirst};
 ghost use Rattle.zw_sema.specs.WorkedPrograms.{WorkedPrograms};
 ghost use Rattle.zw_sema.specs.WorkedUnreached.{WorkedUnreached};
 ghost use Rattle.zw_sema.specs.WorkedTypes.{WorkedTypes};
@@ -66,4 +67,9 @@ pub fn known_values_have_their_types()
 /// A program of a file has the file's sessions.
 pub fn programs_mean_their_files()
     ensures { ProgramsMeanTheirFiles }
+{}
+
+/// Texts with statements, variables and calls, worked out by hand.
+pub fn statements_are_worked()
+    ensures first { WorkedFirst }
 {}
