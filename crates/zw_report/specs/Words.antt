@@ -1,4 +1,4 @@
--- Words: what each line is, whatever it tells: words of visible ASCII with one blank between two, and LF at the end alone.
+-- Words: what each line is, whatever it tells: words of visible ASCII with one blank before each but the first, and LF at the end alone.
 use Rattle.std.specs.Prelude.{◌≡◌, ℕ, true, List, ◌∷◌, ◌++◌, codes}
 use Rattle.std.specs.List.{flat_map, list_all}
 use Rattle.zw_report.specs.Lines.{is_plain, word}

@@ -13,8 +13,8 @@ ghost use Rattle.zw_report.specs.WorkedLines.{WorkedEnds, WorkedLines, WorkedPan
 ghost use Rattle.zw_report.specs.WorkedStops.{WorkedStops};
 ghost use Rattle.zw_wasm_run.specs.declared.event.Event.{Event};
 
-/// Whatever a line tells, it is words of visible ASCII with one blank between two, and LF at its end alone: so a name, a path or
-/// a message makes no further words and no further lines.
+/// Whatever a line tells, it is words of visible ASCII with one blank before each but the first, and LF at its end alone: so a
+/// name, a path or a message makes no further words and no further lines.
 pub fn lines_are_words()
     ensures calls { (name : List ℕ) (args : List Arg) → IsBytes name → IsLine (call_line name args) }
     ensures events { (name : List ℕ) (tys : List ItemTy) (event : Event) → IsBytes name → AllByRecursion IsBytes event.shown → IsLine (event_line name tys event) }
