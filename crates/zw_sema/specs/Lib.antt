@@ -22,3 +22,8 @@ pub mod FlowWalk
 pub mod FlowFiles
 pub mod FlowTexts
 pub mod WorkedStatements
+pub mod WorkedLoops
+pub mod WorkedRanges
+pub mod WorkedBlocks
+pub mod WorkedCalls
+pub mod WorkedStops
