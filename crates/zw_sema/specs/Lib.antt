@@ -26,4 +26,9 @@ pub mod WorkedLoops
 pub mod WorkedRanges
 pub mod WorkedBlocks
 pub mod WorkedCalls
+pub mod WorkedActive
+pub mod WorkedRefused
 pub mod WorkedStops
+pub mod WorkedStores
+pub mod WorkedEnds
+pub mod WorkedCounted

@@ -10,7 +10,7 @@ use Rattle.zw_sema.specs.Building.{form, mention, number, builtin, parameter, ex
 use Rattle.zw_sema.specs.WorkedExpressions.{a, b, f, u8}
 use Rattle.zw_sema.specs.WorkedHost.{h}
 use Rattle.zw_sema.specs.WorkedStatements.{x}
-use Rattle.zw_sema.specs.FlowTexts.{a_const, const_of, when, choose, call_of, fn_of, tells, runs, runs_within, still, g, i, noreturn, void}
+use Rattle.zw_sema.specs.FlowTexts.{a_const, const_of, when, choose, call_of, fn_of, tells, runs, still, g, i, noreturn, void}
 
 -- `fn g(x: u8) u8 { return x + 1; } export fn f(a: u8) u8 { return g(g(a)); }`
 abbrev pub nested_text : List (Forest Entry)
@@ -25,25 +25,6 @@ order_text =
     []) 43 u8 (return_of 48 (form kind.Subtract 55 (mention 55 a ∷ mention 59 b ∷ [])) ∷ []) ∷
     export_of 64 f [] 78 u8 (return_of 83 (call_of 90 g (call_of 92 h (number 94 1 ∷ []) ∷ call_of 98 h (number 100 2 ∷ []) ∷ [])) ∷
     []) ∷ []
-
--- `export fn f(a: u8) u8 { if (a == 0) return 0; return f(a - 1) + 2; }`
-abbrev pub recursion_text : List (Forest Entry)
-recursion_text =
-    export_of 1 f (parameter 13 a u8 ∷ []) 20 u8 (when 25 (form kind.Equal 29 (mention 29 a ∷ number 34 0 ∷
-    [])) (return_of 37 (number 44 0)) ∷ return_of 47 (form kind.Add 54 (call_of 54 f (form kind.Subtract 56 (mention 56 a ∷
-    number 60 1 ∷ []) ∷ []) ∷ number 65 2 ∷ [])) ∷ []) ∷ []
-
--- `export fn f(a: u8) u8 { if (a == 0) return 0; return f(a - 1) + 2; }`
-abbrev pub active_text : List (Forest Entry)
-active_text =
-    export_of 1 f (parameter 13 a u8 ∷ []) 20 u8 (when 25 (form kind.Equal 29 (mention 29 a ∷ number 34 0 ∷
-    [])) (return_of 37 (number 44 0)) ∷ return_of 47 (form kind.Add 54 (call_of 54 f (form kind.Subtract 56 (mention 56 a ∷
-    number 60 1 ∷ []) ∷ []) ∷ number 65 2 ∷ [])) ∷ []) ∷ []
-
--- `export fn f() u8 { return f(); }`
-abbrev pub endless_text : List (Forest Entry)
-endless_text =
-    export_of 1 f [] 15 u8 (return_of 20 (call_of 27 f []) ∷ []) ∷ []
 
 -- `export fn f(a: u8) u8 { if (a == 0) return 1; return g(a - 1); } export fn g(a: u8) u8 { if (a == 0) return 2; return f(a - 1); }`
 abbrev pub each_other_text : List (Forest Entry)
@@ -104,16 +85,6 @@ pub record WorkedCalls : Type 0 where
   pub nested_past : runs nested_text (called f (n 254 ∷ []) ∷ []) [] 2 ≡ ends [] (panics 1)
   -- arguments are evaluated from left to right
   pub order : runs order_text (called f [] ∷ []) (9 ∷ 4 ∷ []) 1 ≡ ends (shows h (n 1 ∷ []) ∷ shows h (n 2 ∷ []) ∷ gives (n 5) ∷ []) Finished
-  -- a function calls itself; three calls from inside are three turns
-  pub recursion : runs recursion_text (called f (n 3 ∷ []) ∷ []) [] 3 ≡ ends (gives (n 6) ∷ []) Finished
-  pub recursion_short : runs recursion_text (called f (n 3 ∷ []) ∷ []) [] 2 ≡ ends [] still
-  -- so many calls may be active as three need, or one less
-  pub active : runs_within 4 active_text (called f (n 3 ∷ []) ∷ []) [] 9 ≡ ends (gives (n 6) ∷ []) Finished
-  pub active_less : runs_within 3 active_text (called f (n 3 ∷ []) ∷ []) [] 9 ≡ ends [] (panics 19)
-  -- under any number of turns it still runs
-  pub endless_none : runs endless_text (called f [] ∷ []) [] 0 ≡ ends [] still
-  pub endless_one : runs endless_text (called f [] ∷ []) [] 1 ≡ ends [] still
-  pub endless_five : runs endless_text (called f [] ∷ []) [] 5 ≡ ends [] still
   -- two exports call each other
   pub each_other : runs each_other_text (called f (n 2 ∷ []) ∷ called f (n 3 ∷ []) ∷ called g (n 2 ∷ []) ∷ []) [] 7 ≡ ends (gives (n 1) ∷ gives (n 2) ∷ gives (n 2) ∷ []) Finished
   pub each_other_short : runs each_other_text (called f (n 2 ∷ []) ∷ called f (n 3 ∷ []) ∷ called g (n 2 ∷ []) ∷ []) [] 6 ≡ ends (gives (n 1) ∷ gives (n 2) ∷ []) still

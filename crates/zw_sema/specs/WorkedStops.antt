@@ -8,27 +8,7 @@ use Rattle.zw_sema.specs.Building.{form, mention, name, number, builtin, paramet
 use Rattle.zw_sema.specs.WorkedExpressions.{a, f, u8, bool}
 use Rattle.zw_sema.specs.WorkedHost.{h}
 use Rattle.zw_sema.specs.WorkedStatements.{x}
-use Rattle.zw_sema.specs.FlowTexts.{block, labelled, a_const, const_of, var_of, assign, update, discard, when, choose, leave_to, call_of, fn_of, tells, g, o, void}
-
--- `export fn f() void { const x: u8 = 1; x = 2; }`
-abbrev pub to_constant_text : List (Forest Entry)
-to_constant_text =
-    export_of 1 f [] 15 void (const_of 22 x u8 (number 36 1) ∷ assign 39 (mention 39 x) (number 43 2) ∷ []) ∷ []
-
--- `export fn f(a: u8) void { a = 2; }`
-abbrev pub to_parameter_text : List (Forest Entry)
-to_parameter_text =
-    export_of 1 f (parameter 13 a u8 ∷ []) 20 void (assign 27 (mention 27 a) (number 31 2) ∷ []) ∷ []
-
--- `export fn f(a: u8) void { a = true; }`
-abbrev pub right_first_text : List (Forest Entry)
-right_first_text =
-    export_of 1 f (parameter 13 a u8 ∷ []) 20 void (assign 27 (mention 27 a) (mention 31 (codes "true")) ∷ []) ∷ []
-
--- `export fn f(a: u8) void { a += 2; }`
-abbrev pub update_constant_text : List (Forest Entry)
-update_constant_text =
-    export_of 1 f (parameter 13 a u8 ∷ []) 20 void (update kind.AddAssign 27 (mention 27 a) (number 32 2) ∷ []) ∷ []
+use Rattle.zw_sema.specs.FlowTexts.{block, labelled, a_const, const_of, var_of, assign, discard, when, choose, leave_to, call_of, fn_of, tells, g, o, void}
 
 -- `export fn f(a: u8) void { a; }`
 abbrev pub left_value_text : List (Forest Entry)
@@ -125,14 +105,6 @@ early_loop_text =
     export_of 28 f [] 42 u8 (return_of 47 (mention 54 x) ∷ []) ∷ []
 
 pub record WorkedStops : Type 0 where
-  -- a constant is not written
-  pub to_constant : tells to_constant_text ≡ Stops (Error 19) 39
-  -- nor is a parameter
-  pub to_parameter : tells to_parameter_text ≡ Stops (Error 19) 27
-  -- the right side comes first: its stop is told
-  pub right_first : tells right_first_text ≡ Stops (Error 14) 31
-  -- nor is it with an operator
-  pub update_constant : tells update_constant_text ≡ Stops (Error 19) 27
   -- a statement leaves no value
   pub left_value : tells left_value_text ≡ Stops (Error 28) 27
   -- nor does a call

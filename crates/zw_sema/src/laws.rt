@@ -14,7 +14,12 @@ ghost use Rattle.zw_sema.specs.WorkedLoops.{WorkedLoops};
 ghost use Rattle.zw_sema.specs.WorkedRanges.{WorkedRanges};
 ghost use Rattle.zw_sema.specs.WorkedBlocks.{WorkedBlocks};
 ghost use Rattle.zw_sema.specs.WorkedCalls.{WorkedCalls};
+ghost use Rattle.zw_sema.specs.WorkedActive.{WorkedActive};
+ghost use Rattle.zw_sema.specs.WorkedRefused.{WorkedRefused};
 ghost use Rattle.zw_sema.specs.WorkedStops.{WorkedStops};
+ghost use Rattle.zw_sema.specs.WorkedStores.{WorkedStores};
+ghost use Rattle.zw_sema.specs.WorkedEnds.{WorkedEnds};
+ghost use Rattle.zw_sema.specs.WorkedCounted.{WorkedCounted};
 ghost use Rattle.zw_sema.specs.WorkedPrograms.{WorkedPrograms};
 ghost use Rattle.zw_sema.specs.WorkedUnreached.{WorkedUnreached};
 ghost use Rattle.zw_sema.specs.WorkedTypes.{WorkedTypes};
@@ -81,5 +86,10 @@ pub fn statements_are_worked()
     ensures ranges { WorkedRanges }
     ensures blocks { WorkedBlocks }
     ensures calls { WorkedCalls }
+    ensures active { WorkedActive }
+    ensures refused { WorkedRefused }
     ensures stops { WorkedStops }
+    ensures stores { WorkedStores }
+    ensures ends { WorkedEnds }
+    ensures counted { WorkedCounted }
 {}

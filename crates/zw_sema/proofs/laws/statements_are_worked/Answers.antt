@@ -11,6 +11,11 @@ returns c = record {
   loops = record { steps = refl; steps_short = refl; otherwise = refl; otherwise_none = refl; for_ever = refl; left = refl; outer = refl; outer_short = refl; value_found = refl; value = refl; plain_continue = refl; step_continue = refl; never = refl; host = refl; host_running = refl; host_wants = refl };
   ranges = record { three = refl; three_short = refl; beside = refl; down = refl; down_open = refl; down_open_up = refl; down_open_empty = refl; differ = refl; differ_open = refl; differ_open_same = refl; first_down = refl; range_else = refl; range_else_none = refl; capture_written = refl; capture_count = refl; no_end = refl; not_truth = refl; body_value = refl };
   blocks = record { two_out = refl; two_out_other = refl; changed = refl; known = refl; joined = refl; joined_other = refl; chain = refl; chain_second = refl; chain_third = refl; chain_last = refl; unknown = refl; unknown_other = refl; unknown_past = refl; discarded = refl; discarded_done = refl; nothing = refl; behind_return = refl; ended = refl; arm = refl; arm_other = refl; dead = refl; dead_other = refl };
-  calls = record { nested = refl; nested_short = refl; nested_past = refl; order = refl; recursion = refl; recursion_short = refl; active = refl; active_less = refl; endless_none = refl; endless_one = refl; endless_five = refl; each_other = refl; each_other_short = refl; unevaluated = refl; type_of = refl; reached = refl; second_unit = refl; never = refl; by_name = refl; nothing_back = refl };
-  stops = record { to_constant = refl; to_parameter = refl; right_first = refl; update_constant = refl; left_value = refl; left_call = refl; falls = refl; no_peer = refl; two_known = refl; no_type = refl; too_big = refl; too_big_break = refl; arguments = refl; argument = refl; no_function = refl; unreached = refl; parameter_early = refl; itself = refl; no_truth = refl; early_call = refl; early_loop = refl };
+  calls = record { nested = refl; nested_short = refl; nested_past = refl; order = refl; each_other = refl; each_other_short = refl; unevaluated = refl; type_of = refl; reached = refl; second_unit = refl; never = refl; by_name = refl; nothing_back = refl };
+  active = record { recursion = refl; recursion_short = refl; active = refl; active_less = refl; endless_none = refl; endless_one = refl; endless_five = refl; argument = refl; never_back = refl; local_name = refl; depth = refl; depth_less = refl; behind_arguments = refl; behind_arguments_running = refl };
+  refused = record { breaks = refl; lost = refl; lost_sum = refl; arm_alone = refl; arm_known = refl; loop_value = refl; behind = refl; returns_void = refl; returns_value = refl; ends = refl; goes_back = refl; bound = refl; bound_type = refl };
+  stops = record { left_value = refl; left_call = refl; falls = refl; no_peer = refl; two_known = refl; no_type = refl; too_big = refl; too_big_break = refl; arguments = refl; argument = refl; no_function = refl; unreached = refl; parameter_early = refl; itself = refl; no_truth = refl; early_call = refl; early_loop = refl };
+  stores = record { to_constant = refl; to_parameter = refl; right_first = refl; update_constant = refl; to_file = refl; to_value = refl; to_local = refl; parens = refl; wider = refl; shifted_zero = refl; shifted = refl; wrapped = refl; amount = refl; zero = refl; signed = refl; discard_void = refl; discard_function = refl; quota = refl };
+  ends = record { known_loop = refl; chosen = refl; or_return = refl; or_return_other = refl; step_left = refl; step_left_other = refl; break_in_step = refl; out_of_inner = refl; out_of_inner_inner = refl; next_of_range = refl; next_of_range_short = refl; past_end = refl; past_blank = refl; else_returns = refl; else_returns_none = refl; each_turn = refl; stays = refl };
+  counted = record { seven = refl; variable = refl; through_call = refl; choice = refl; range = refl; for_ever = refl };
 }
