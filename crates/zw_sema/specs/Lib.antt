@@ -32,3 +32,5 @@ pub mod WorkedStops
 pub mod WorkedStores
 pub mod WorkedEnds
 pub mod WorkedCounted
+pub mod WorkedPassing
+pub mod WorkedEarly

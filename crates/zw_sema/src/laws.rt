@@ -20,6 +20,8 @@ ghost use Rattle.zw_sema.specs.WorkedStops.{WorkedStops};
 ghost use Rattle.zw_sema.specs.WorkedStores.{WorkedStores};
 ghost use Rattle.zw_sema.specs.WorkedEnds.{WorkedEnds};
 ghost use Rattle.zw_sema.specs.WorkedCounted.{WorkedCounted};
+ghost use Rattle.zw_sema.specs.WorkedPassing.{WorkedPassing};
+ghost use Rattle.zw_sema.specs.WorkedEarly.{WorkedEarly};
 ghost use Rattle.zw_sema.specs.WorkedPrograms.{WorkedPrograms};
 ghost use Rattle.zw_sema.specs.WorkedUnreached.{WorkedUnreached};
 ghost use Rattle.zw_sema.specs.WorkedTypes.{WorkedTypes};
@@ -92,4 +94,6 @@ pub fn statements_are_worked()
     ensures stores { WorkedStores }
     ensures ends { WorkedEnds }
     ensures counted { WorkedCounted }
+    ensures passing { WorkedPassing }
+    ensures early { WorkedEarly }
 {}

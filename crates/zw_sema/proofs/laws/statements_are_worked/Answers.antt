@@ -18,4 +18,6 @@ returns c = record {
   stores = record { to_constant = refl; to_parameter = refl; right_first = refl; update_constant = refl; to_file = refl; to_value = refl; to_local = refl; parens = refl; wider = refl; shifted_zero = refl; shifted = refl; wrapped = refl; amount = refl; zero = refl; signed = refl; discard_void = refl; discard_function = refl; quota = refl };
   ends = record { known_loop = refl; chosen = refl; or_return = refl; or_return_other = refl; step_left = refl; step_left_other = refl; break_in_step = refl; out_of_inner = refl; out_of_inner_inner = refl; next_of_range = refl; next_of_range_short = refl; past_end = refl; past_blank = refl; else_returns = refl; else_returns_none = refl; each_turn = refl; stays = refl };
   counted = record { seven = refl; variable = refl; through_call = refl; choice = refl; range = refl; for_ever = refl };
+  passing = record { returned_twice = refl; const_ends = refl; store_ends = refl; condition_ends = refl; bound_ends = refl; both_return = refl; both_return_other = refl; may_fall = refl; inner_break = refl; break_unwalked = refl; continue_ends = refl; peer_range = refl; break_range = refl; no_else = refl; once = refl; through_constant = refl };
+  early = record { block = refl; first = refl; past_inner = refl; past_rest = refl; in_sum = refl; value = refl; range = refl; variable = refl; inside = refl; signature = refl; export_order = refl; comptime_parameter = refl; type_of_call = refl; type_of_return = refl; unreachable_part = refl };
 }
