@@ -34,3 +34,5 @@ pub mod WorkedEnds
 pub mod WorkedCounted
 pub mod WorkedPassing
 pub mod WorkedEarly
+pub mod WorkedWhole
+pub mod WorkedReaching

@@ -42,6 +42,11 @@ abbrev pub for_ever_text : List (Forest Entry)
 for_ever_text =
     export_of 1 f [] 15 void (form kind.While 22 (mention 29 (codes "true") ∷ block 35 [] ∷ []) ∷ []) ∷ []
 
+-- `export fn f() u8 { return 7; }`
+abbrev pub twice_text : List (Forest Entry)
+twice_text =
+    export_of 1 f [] 15 u8 (return_of 20 (number 27 7) ∷ []) ∷ []
+
 pub record WorkedCounted : Type 0 where
   -- the call 32, the block 2, the return 4, the number 2, and a byte that is returned 16
   pub seven : counts seven_text (called f [] ∷ []) [] 0 ≡ record { visits = 4; moved = 1; work = 56 }
@@ -55,3 +60,5 @@ pub record WorkedCounted : Type 0 where
   pub range : counts range_text (called f [] ∷ []) [] 9 ≡ record { visits = 7; moved = 0; work = 158 }
   -- three, and four conditions and four bodies; 32 + 2 + 4 + 4, four times 8 + 2 + 4 + 2, and three returns of 16
   pub for_ever : counts for_ever_text (called f [] ∷ []) [] 3 ≡ record { visits = 11; moved = 0; work = 154 }
+  -- two calls count twice what one counts
+  pub twice : counts twice_text (called f [] ∷ called f [] ∷ []) [] 0 ≡ record { visits = 8; moved = 2; work = 112 }

@@ -22,6 +22,8 @@ ghost use Rattle.zw_sema.specs.WorkedEnds.{WorkedEnds};
 ghost use Rattle.zw_sema.specs.WorkedCounted.{WorkedCounted};
 ghost use Rattle.zw_sema.specs.WorkedPassing.{WorkedPassing};
 ghost use Rattle.zw_sema.specs.WorkedEarly.{WorkedEarly};
+ghost use Rattle.zw_sema.specs.WorkedWhole.{WorkedWhole};
+ghost use Rattle.zw_sema.specs.WorkedReaching.{WorkedReaching};
 ghost use Rattle.zw_sema.specs.WorkedPrograms.{WorkedPrograms};
 ghost use Rattle.zw_sema.specs.WorkedUnreached.{WorkedUnreached};
 ghost use Rattle.zw_sema.specs.WorkedTypes.{WorkedTypes};
@@ -96,4 +98,6 @@ pub fn statements_are_worked()
     ensures counted { WorkedCounted }
     ensures passing { WorkedPassing }
     ensures early { WorkedEarly }
+    ensures whole { WorkedWhole }
+    ensures reaching { WorkedReaching }
 {}
