@@ -10,6 +10,32 @@ use Rattle.zw_typed.specs.FlowCounts.{Counts}
 use Rattle.zw_sema.specs.Building.{written, form, file, mention, name, Told, Fine, Stops, WantsMore, enough}
 use Rattle.zw_sema.specs.FlowFiles.{Analysis, Accepted, Refused, NeedsMore, analysed, session_within, file_session, file_counts}
 
+-- ---- names
+
+abbrev pub g : List ℕ
+g = codes "g"
+
+abbrev pub i : List ℕ
+i = codes "i"
+
+abbrev pub y : List ℕ
+y = codes "y"
+
+abbrev pub o : List ℕ
+o = codes "o"
+
+abbrev pub void : List ℕ
+void = codes "void"
+
+abbrev pub usize : List ℕ
+usize = codes "usize"
+
+abbrev pub noreturn : List ℕ
+noreturn = codes "noreturn"
+
+abbrev pub u16 : List ℕ
+u16 = codes "u16"
+
 -- ---- statements
 
 abbrev pub block : ℕ → List (Forest Entry) → Forest Entry

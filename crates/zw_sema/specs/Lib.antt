@@ -22,3 +22,17 @@ pub mod FlowWalk
 pub mod FlowFiles
 pub mod FlowTexts
 pub mod WorkedStatements
+pub mod WorkedLoops
+pub mod WorkedRanges
+pub mod WorkedBlocks
+pub mod WorkedCalls
+pub mod WorkedActive
+pub mod WorkedRefused
+pub mod WorkedStops
+pub mod WorkedStores
+pub mod WorkedEnds
+pub mod WorkedCounted
+pub mod WorkedPassing
+pub mod WorkedEarly
+pub mod WorkedWhole
+pub mod WorkedReaching

@@ -10,6 +10,20 @@ ghost use Rattle.zw_sema.specs.WorkedExpressions.{WorkedIntegers};
 ghost use Rattle.zw_sema.specs.WorkedForms.{WorkedFunctions, WorkedOperators};
 ghost use Rattle.zw_sema.specs.WorkedHost.{WorkedHost, WorkedTruths};
 ghost use Rattle.zw_sema.specs.WorkedStatements.{WorkedFirst};
+ghost use Rattle.zw_sema.specs.WorkedLoops.{WorkedLoops};
+ghost use Rattle.zw_sema.specs.WorkedRanges.{WorkedRanges};
+ghost use Rattle.zw_sema.specs.WorkedBlocks.{WorkedBlocks};
+ghost use Rattle.zw_sema.specs.WorkedCalls.{WorkedCalls};
+ghost use Rattle.zw_sema.specs.WorkedActive.{WorkedActive};
+ghost use Rattle.zw_sema.specs.WorkedRefused.{WorkedRefused};
+ghost use Rattle.zw_sema.specs.WorkedStops.{WorkedStops};
+ghost use Rattle.zw_sema.specs.WorkedStores.{WorkedStores};
+ghost use Rattle.zw_sema.specs.WorkedEnds.{WorkedEnds};
+ghost use Rattle.zw_sema.specs.WorkedCounted.{WorkedCounted};
+ghost use Rattle.zw_sema.specs.WorkedPassing.{WorkedPassing};
+ghost use Rattle.zw_sema.specs.WorkedEarly.{WorkedEarly};
+ghost use Rattle.zw_sema.specs.WorkedWhole.{WorkedWhole};
+ghost use Rattle.zw_sema.specs.WorkedReaching.{WorkedReaching};
 ghost use Rattle.zw_sema.specs.WorkedPrograms.{WorkedPrograms};
 ghost use Rattle.zw_sema.specs.WorkedUnreached.{WorkedUnreached};
 ghost use Rattle.zw_sema.specs.WorkedTypes.{WorkedTypes};
@@ -72,4 +86,18 @@ pub fn programs_mean_their_files()
 /// Texts with statements, variables and calls, worked out by hand.
 pub fn statements_are_worked()
     ensures first { WorkedFirst }
+    ensures loops { WorkedLoops }
+    ensures ranges { WorkedRanges }
+    ensures blocks { WorkedBlocks }
+    ensures calls { WorkedCalls }
+    ensures active { WorkedActive }
+    ensures refused { WorkedRefused }
+    ensures stops { WorkedStops }
+    ensures stores { WorkedStores }
+    ensures ends { WorkedEnds }
+    ensures counted { WorkedCounted }
+    ensures passing { WorkedPassing }
+    ensures early { WorkedEarly }
+    ensures whole { WorkedWhole }
+    ensures reaching { WorkedReaching }
 {}
