@@ -4,5 +4,6 @@
 mod laws;
 mod layout;
 
-pub use laws::{one_layout, whole_items};
-pub use layout::{Layout, align, offset, size};
+pub use laws::{one_layout, simple_layouts, whole_items};
+pub use layout::{align, offset, size};
+pub use zw_types::Layout;

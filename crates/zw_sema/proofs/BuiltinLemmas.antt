@@ -20,7 +20,7 @@ use Rattle.zw_tree.specs.declared.kind.NodeKind.{NodeKind}
 use Rattle.zw_tree.specs.declared.kind.NodeKind.TheVariants as kind
 use Rattle.zw_types.specs.TypeTrees as tree
 use Rattle.zw_types.specs.TypeTrees.{TypeTree, ValueTree}
-use Rattle.zw_layout.specs.declared.layout.Layout.{Layout}
+use Rattle.zw_types.specs.declared.layout.Layout.{Layout}
 use Rattle.zw_layout.specs.Sizes.{bytes_for, integer_layout}
 use Rattle.zw_values.specs.Coercions.{peer_of_all}
 use Rattle.zw_values.specs.Applied.{Gives, applied}

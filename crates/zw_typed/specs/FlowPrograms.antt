@@ -8,7 +8,7 @@ use Rattle.zw_types.specs.Tables.{TypeTable, IsTable}
 use Rattle.zw_types.specs.Readings.{type_at, value_tree, types_in}
 use Rattle.zw_types.specs.declared.value.TypeId.{TypeId}
 use Rattle.zw_types.specs.declared.value.Value.{Value}
-use Rattle.zw_layout.specs.declared.layout.Layout.{Layout}
+use Rattle.zw_types.specs.declared.layout.Layout.{Layout}
 use Rattle.zw_layout.specs.Sizes.{HasLayout}
 use Rattle.zw_typed.specs.Nodes.{Logic}
 use Rattle.zw_typed.specs.declared.program.HostFunc.{HostFunc}

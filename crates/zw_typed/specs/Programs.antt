@@ -16,7 +16,7 @@ use Rattle.zw_typed.specs.declared.program.HostFunc.{HostFunc}
 use Rattle.zw_typed.specs.declared.program.Export.{Export}
 use Rattle.zw_typed.specs.declared.program.Program.{Program}
 use Rattle.zw_typed.specs.Nodes.{Op, And, Or, Import, Constant, Argument, Operate, Become, Decide, CallHost, InOrder, Return, TypedNode, TypedNodes, node, no_nodes, node_and, type_of, types_of}
-use Rattle.zw_layout.specs.declared.layout.Layout.{Layout}
+use Rattle.zw_types.specs.declared.layout.Layout.{Layout}
 use Rattle.zw_layout.specs.Sizes.{HasLayout}
 use Rattle.zw_typed.specs.HostTypes.{is_utf8_name, is_exported_type, is_shown_type, is_result_type, all_types, is_export_name}
 use Rattle.zw_typed.specs.NodeTypes.{KidsFit}

@@ -1,5 +1,5 @@
 // The table of types. It is a plain list that is searched; no contract tells.
-ghost use Rattle.std.specs.Prelude.{◌≡◌, ◌↔◌, ◌<◌, ◌≤◌, ◌++◌, ◌∷◌, [], length, slice_get, All, Contains, IsTrue, IsOk, IfOk, OnErr, OnOk, MatchOption, MatchBool, Some, None, List};
+ghost use Rattle.std.specs.Prelude.{◌≡◌, ◌↔◌, ◌<◌, ◌≤◌, ◌++◌, ◌∷◌, [], length, slice_get, All, Contains, IsTrue, IsOk, IfOk, OnErr, OnOk, MatchOption, MatchBool, Some, None, true, false, List};
 ghost use Rattle.zw_types.specs.TypeTrees as tree;
 ghost use Rattle.zw_types.specs.TypeTrees.{TypeTree};
 ghost use Rattle.zw_types.specs.Readings.{form_tree};
@@ -144,6 +144,19 @@ impl Types {
         self.entries[id.0 as usize].shape = Some(shape);
         settle(self.entries.as_slice(), &mut self.kept);
         Ok(true)
+    }
+
+    /// Whether the layout of a type can be told: each container that lies in the type by value is resolved, and none lies in
+    /// itself.
+    pub fn is_laid_out(&self, id: TypeId) -> bool
+        requires { id.0 < length self.now.trees }
+        ensures told { result ≡ true → IsLaidOut self.now (type_at self.now.trees id) }
+        ensures not_told { result ≡ false → ¬ IsLaidOut self.now (type_at self.now.trees id) }
+    {
+        match self.kept[id.0 as usize] {
+            Some(_) => true,
+            None => false,
+        }
     }
 
     /// The layout of a type, where a size of more than 2^127 bytes is 2^127; None exactly where the type has no run-time form. Each
