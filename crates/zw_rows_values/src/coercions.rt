@@ -2,9 +2,9 @@
 ghost use Rattle.std.specs.Prelude.{◌≡◌, ◌<◌, length, List, IsTrue, true};
 ghost use Rattle.zw_types.specs.TypeTrees.{TypeTree};
 ghost use Rattle.zw_types.specs.Readings.{type_at, form_tree};
-ghost use Rattle.zw_layout.specs.Sizes.{is_simple};
+ghost use Rattle.zw_layout.specs.Sizes.{is_simple, IsLaidOut};
 
-use crate::types::{are_held, known_type};
+use crate::types::{are_held, known_type, spelled_type};
 use std::alloc::Global;
 use zw_base::Oom;
 use zw_coerce::{Code, coerce, peer};
@@ -14,6 +14,7 @@ use zw_types::{TypeForm, TypeId, Types, Value};
 
 /// `coercions NAME`: lines `coerce FROM TO [VALUE] = row N` or `error N`, where the value is known as a number, as `true` or `false`, or as
 /// `undefined`; `peer TYPE.. = TYPE` or `error N`; and `size TYPE = N`, `align TYPE = N` and `offset TYPE = N`, of its first part, or `none`.
+/// The type in these three may be of several words, as `spelled_type` reads them.
 pub fn check_coercions(alloc: Global, fields: &[Field<'_>]) -> Result<Report, Mistake> {
     let mut report = Report::new(alloc);
     for field in fields {
@@ -106,14 +107,12 @@ fn name_of<'a>(names: &'a str, ids: &[TypeId], wanted: TypeId) -> &'a str {
 /// What a type measures, as a row has it.
 fn measured(alloc: Global, line: Line<'_>, name: &str) -> Result<String, Mistake> {
     let mut types = Types::new(alloc);
-    let ty = known_type(&mut types, line, name)?;
-    if !has_simple(&types, ty) {
-        return Err(Mistake::Wrong(line.number, Problem::Refused));
-    }
+    let ty = spelled_type(alloc, &mut types, line, name)?;
     let number = match line.word {
-        "size" => size(&types, ty),
-        "align" => align(&types, ty).map(u128::from),
-        "offset" => offset(&types, ty, 0),
+        "size" if has_layout(&types, ty) => size(&types, ty),
+        "align" if has_layout(&types, ty) => align(&types, ty).map(u128::from),
+        "offset" if has_simple(&types, ty) => offset(&types, ty, 0),
+        "size" | "align" | "offset" => return Err(Mistake::Wrong(line.number, Problem::Refused)),
         _ => return Err(Mistake::Wrong(line.number, Problem::UnknownWord)),
     };
     Ok(shown_measure(alloc, number)?)
@@ -125,6 +124,17 @@ fn shown_measure(alloc: Global, number: Option<u128>) -> Result<String, Oom> {
         Some(number) => format!(in alloc; "{number}"),
         None => String::from_str(alloc, "none"),
     }
+}
+
+/// Whether the table has this type, and its layout can be told.
+fn has_layout(types: &Types, ty: TypeId) -> bool
+    ensures held { result ≡ true → ty.0 < length types.now.trees }
+    ensures laid_out { result ≡ true → IsLaidOut types.now (type_at types.now.trees ty) }
+{
+    if !types.holds(ty) {
+        return false;
+    }
+    types.is_laid_out(ty)
 }
 
 /// Whether the table has this type, and it has no parts.

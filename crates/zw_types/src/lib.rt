@@ -1,5 +1,5 @@
 //! Types and values: a type has a number in a table, where equal types have one number, and contracts see a table as the list of
-//! its types, each a tree that mentions no numbers. It must not know: texts, layout, operators.
+//! its types, each a tree that mentions no numbers, and keeps the layout of each. It must not know: texts, operators.
 #![tactic(auto)]
 
 mod equality;
