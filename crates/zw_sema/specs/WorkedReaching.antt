@@ -5,7 +5,7 @@ use Rattle.zw_session.specs.Sessions.{Truth, Finished}
 use Rattle.zw_tree.specs.Trees.{Forest}
 use Rattle.zw_tree.specs.declared.ast.Entry.{Entry}
 use Rattle.zw_tree.specs.declared.kind.NodeKind.TheVariants as kind
-use Rattle.zw_sema.specs.Building.{form, mention, number, builtin, parens, parameter, export_of, return_of, called, n, gives, ends, panics, Stops}
+use Rattle.zw_sema.specs.Building.{form, mention, name, number, builtin, parens, parameter, export_of, return_of, called, n, gives, ends, panics, Stops}
 use Rattle.zw_sema.specs.WorkedExpressions.{a, c, f, u8, bool}
 use Rattle.zw_sema.specs.WorkedStatements.{x}
 use Rattle.zw_sema.specs.FlowTexts.{block, const_of, discard, when, choose, call_of, fn_of, tells, runs, runs_within, still, g, u16, void}
@@ -54,6 +54,27 @@ abbrev pub spin_text : List (Forest Entry)
 spin_text =
     export_of 1 f [] 15 void (form kind.While 22 (mention 29 (codes "true") ∷ block 35 [] ∷ []) ∷ []) ∷ []
 
+-- `comptime {} export fn f() u8 { return true; }`
+abbrev pub block_first_text : List (Forest Entry)
+block_first_text =
+    form kind.ComptimeBlock 1 (block 10 [] ∷ []) ∷ export_of 13 f [] 27 u8 (return_of 32 (mention 39 (codes "true")) ∷ []) ∷ []
+
+-- `export fn f() u8 { return true; } comptime {}`
+abbrev pub export_first_text : List (Forest Entry)
+export_first_text =
+    export_of 1 f [] 15 u8 (return_of 20 (mention 27 (codes "true")) ∷ []) ∷ form kind.ComptimeBlock 35 (block 44 [] ∷ []) ∷ []
+
+-- `export fn f() void { inline while (false) {} }`
+abbrev pub inline_text : List (Forest Entry)
+inline_text =
+    export_of 1 f [] 15 void (form kind.While 22 (form kind.InlineWord 22 [] ∷ mention 36 (codes "false") ∷ block 43 [] ∷ []) ∷ []) ∷ []
+
+-- `export fn f(comptime a: u8) u8 { return a; }`
+abbrev pub known_parameter_text : List (Forest Entry)
+known_parameter_text =
+    export_of 1 f (form kind.Parameter 13 (form kind.ComptimeWord 13 [] ∷ name 22 a ∷ mention 25 u8 ∷ []) ∷
+    []) 29 u8 (return_of 34 (mention 41 a) ∷ []) ∷ []
+
 pub record WorkedReaching : Type 0 where
   -- a function that nothing calls is not walked
   pub not_called : runs not_called_text (called f [] ∷ []) [] 0 ≡ ends (gives (n 7) ∷ []) Finished
@@ -72,3 +93,11 @@ pub record WorkedReaching : Type 0 where
   -- it runs under any number of turns
   pub spin : runs spin_text (called f [] ∷ []) [] 0 ≡ ends [] still
   pub spin_more : runs spin_text (called f [] ∷ []) [] 7 ≡ ends [] still
+  -- blocks of the file that are evaluated while compiling are not built yet, at their turn
+  pub block_first : tells block_first_text ≡ Stops (Error 36) 1
+  -- an export in front of one comes first
+  pub export_first : tells export_first_text ≡ Stops (Error 14) 27
+  -- nor are loops that are written out
+  pub inline : tells inline_text ≡ Stops (Error 36) 22
+  -- the host gives no parameter that is known while compiling
+  pub known_parameter : tells known_parameter_text ≡ Stops (Error 33) 1

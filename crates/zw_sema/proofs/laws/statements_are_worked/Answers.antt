@@ -21,5 +21,5 @@ returns c = record {
   passing = record { returned_twice = refl; const_ends = refl; store_ends = refl; condition_ends = refl; bound_ends = refl; both_return = refl; both_return_other = refl; may_fall = refl; inner_break = refl; break_unwalked = refl; continue_ends = refl; peer_range = refl; break_range = refl; no_else = refl; once = refl; through_constant = refl };
   early = record { block = refl; first = refl; past_inner = refl; past_rest = refl; in_sum = refl; value = refl; range = refl; variable = refl; inside = refl; signature = refl; export_order = refl; comptime_parameter = refl; type_of_call = refl; type_of_return = refl; unreachable_part = refl };
   whole = record { container_variable = refl; not_mentioned = refl; unevaluated = refl; two_functions = refl; own_variables = refl; host_loop = refl; host_loop_wants = refl; host_loop_running = refl; many = refl; many_one = refl; many_two = refl; many_none = refl; truth = refl; truth_other = refl; nothing_variable = refl; sessions = refl; division = refl; unused_operand = refl; before_export = refl; to_capture_operator = refl; argument_range = refl };
-  reaching = record { not_called = refl; known_arm = refl; open_arm = refl; peer = refl; peer_other = refl; deep = refl; deep_too_deep = refl; known_sum = refl; spin = refl; spin_more = refl };
+  reaching = record { not_called = refl; known_arm = refl; open_arm = refl; peer = refl; peer_other = refl; deep = refl; deep_too_deep = refl; known_sum = refl; spin = refl; spin_more = refl; block_first = refl; export_first = refl; inline = refl; known_parameter = refl };
 }
